@@ -1,5 +1,6 @@
 mod Agreeing
 mod EachAlone
 mod Going
+mod Spelling
 mod Splits
 mod Telling

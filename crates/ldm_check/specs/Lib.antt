@@ -1,4 +1,6 @@
 pub mod Lines
+pub mod Warnings
+pub mod Concerns
 pub mod Says
 pub mod ConfFaults
 pub mod PqactFaults

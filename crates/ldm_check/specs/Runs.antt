@@ -9,6 +9,7 @@ use Rattle.ldm_status.specs.declared.status.Status.TheVariants as status
 use Rattle.ldm_check.specs.declared.command.TheConstants.{FAULTY}
 use Rattle.ldm_check.specs.Files.{Scene, TellsConfs, TellsPqacts}
 use Rattle.ldm_check.specs.Programs.{LooksFor}
+use Rattle.ldm_check.specs.Warnings.{Warning, warnings_text}
 
 -- what `check` is lent
 pub record CheckOutside : Type 0 where
@@ -46,12 +47,12 @@ Writes code faults text old new =
     (Takes old.sink text new.sink × (code ≡ code_by faults) × (new.log ≡ old.log))
     ⊎ (Rose old.sink.faults new.sink.faults × WritesFront old.sink text new.sink × Reports status.SinkFault code old.log new.log)
 
--- The faults of the files were written, and behind them warnings.
+-- The faults of the files were written, and behind them warnings, a line each.
 pub record Checks (code : ℕ) (confs pqacts : List (List ℕ)) (old new : CheckOutside) : Type 0 where
   pub faults : List ℕ
   pub finds : Finds confs pqacts faults old.store new.store
-  pub warnings : List ℕ
-  pub writes : Writes code faults (faults ++ warnings) old new
+  pub warnings : List Warning
+  pub writes : Writes code faults (faults ++ warnings_text warnings) old new
 
 -- there was no memory, and nothing is written
 abbrev pub LacksMemory : ℕ → CheckOutside → CheckOutside → Type 0

@@ -2,7 +2,7 @@
 use Rattle.std.specs.Prelude.{◌≡◌, ℕ, List, [], Option, Result, Ok, Err, MatchOption}
 use Rattle.std.specs.Borrow.{Bor}
 use Rattle.ldm_conf.specs.declared.fault.ConfKind.{ConfKind}
-use Rattle.ldm_conf.specs.Statements.{Statement, Blank, Adds, Includes, meaning_of}
+use Rattle.ldm_conf.specs.Statements.{Statement, Blank, Adds, Includes}
 use Rattle.ldm_text.specs.Words.{with_first, words_of}
 use Rattle.ldm_text.specs.declared.words.Comments.TheVariants.{Hash}
 use Rattle.ldm_check.specs.declared.said.Said as code

@@ -1,9 +1,11 @@
 //! `ldm check`: what is wrong with configuration files.
 ghost use Rattle.std.specs.Prelude.{◌≡◌, ◌≤◌, ◌++◌, IfOk};
 ghost use Rattle.ldm_check.specs.Runs.{CheckRuns, Finds, code_by, check_tells, texts_of};
+ghost use Rattle.ldm_check.specs.Warnings.{warning_views, warnings_text};
 
 use crate::conf_file::Search;
 use crate::looking::Form;
+use crate::warning::put_warnings;
 use crate::warnings::Warnings;
 use ldm_outside::{Reasons, Sink, SinkFailed, Store, write_all};
 use ldm_status::Status;
@@ -75,17 +77,18 @@ fn find_all<F: Store + Reasons>(
     Ok(search)
 }
 
-// What is told of faults, and behind it the warnings.
+// What is told of faults, and behind it the lines of the warnings.
 fn joined(search: Search) -> Result<Vec<u8>, AllocError>
     ensures { IfOk result
-        (λ text. text.items ≡ search.faults.items ++ search.warnings.text.items) }
+        (λ text. text.items
+        ≡ search.faults.items ++ warnings_text (warning_views search.warnings.list.items)) }
 {
     let Search {
         faults: mut text,
         warnings,
         ..
     } = search;
-    text.extend_from_slice(warnings.text.as_slice())?;
+    put_warnings(&mut text, warnings.list.as_slice())?;
     Ok(text)
 }
 

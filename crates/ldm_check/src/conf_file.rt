@@ -44,7 +44,7 @@ impl Search {
         self.files = 1;
         self.warnings.begin();
         self.look_through(alloc, store, path, Lines::of(0, bytes))?;
-        self.warnings.end(path)?;
+        self.warnings.end(alloc, path)?;
         Ok(())
     }
 

@@ -11,7 +11,8 @@ mod pqact_file;
 mod programs;
 mod said;
 mod source;
+mod warning;
 mod warnings;
 
 pub use command::{CheckAsked, FAULTY, check};
-pub use laws::faults_are_those_of_reading;
+pub use laws::{faults_are_those_of_reading, warnings_are_no_faults};

@@ -27,42 +27,8 @@ pub(crate) fn put_fault(
     Ok(())
 }
 
-/// Appends `FILE:LINE: warning: ..`.
-pub(crate) fn put_warning(
-    out: &mut Vec<u8>,
-    path: &[u8],
-    number: u64,
-    words: &[u8],
-) -> Result<(), AllocError> {
-    put_place(out, path, number)?;
-    out.extend_from_slice(b"warning: ")?;
-    out.extend_from_slice(words)?;
-    out.push(b'\n')?;
-    Ok(())
-}
-
-/// Appends the warning of a program that the store did not find, by the reason of the store, which names the program;
-/// or, where it gives none, by the program.
-pub(crate) fn put_missing(
-    out: &mut Vec<u8>,
-    path: &[u8],
-    number: u64,
-    program: &[u8],
-    reason: &[u8],
-) -> Result<(), AllocError> {
-    put_place(out, path, number)?;
-    out.extend_from_slice(b"warning: the program is not there, or cannot be read: ")?;
-    if reason.is_empty() {
-        put_shown(out, program)?;
-    } else {
-        put_shown(out, reason)?;
-    }
-    out.push(b'\n')?;
-    Ok(())
-}
-
-// Appends `FILE:LINE: `.
-fn put_place(out: &mut Vec<u8>, path: &[u8], number: u64) -> Result<(), AllocError>
+/// Appends `FILE:LINE: `.
+pub(crate) fn put_place(out: &mut Vec<u8>, path: &[u8], number: u64) -> Result<(), AllocError>
     ensures { OnOk result (out.new.items
         ≡ out.old.items ++ map shown path.now ++ codes ":" ++ decimal number ++ codes ": ") }
 {
@@ -118,8 +84,8 @@ pub(crate) fn put_unread(out: &mut Vec<u8>, path: &[u8], reason: &[u8]) -> Resul
     Ok(())
 }
 
-// Appends a text, each control byte of it as a `?`.
-fn put_shown(out: &mut Vec<u8>, text: &[u8]) -> Result<(), AllocError>
+/// Appends a text, each control byte of it as a `?`.
+pub(crate) fn put_shown(out: &mut Vec<u8>, text: &[u8]) -> Result<(), AllocError>
     ensures { OnOk result (out.new.items ≡ out.old.items ++ map shown text.now) }
 {
     for byte in text {

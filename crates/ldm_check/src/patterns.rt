@@ -1,8 +1,10 @@
 //! What is seen of a pattern without reading it.
+ghost use Rattle.std.specs.Prelude.{◌≡◌};
+ghost use Rattle.ldm_check.specs.Concerns.{has_name, is_letter, is_literal, may_be_slash, may_hold_slash, place_behind};
 
 // Where a byte of a pattern stands.
 #[derive(Clone, Copy, Debug, PartialEq, Eq)]
-enum Place {
+pub(crate) enum Place {
     Plain,
     // behind a backslash
     Escaped,
@@ -18,7 +20,9 @@ enum Place {
 
 impl Place {
     // The place of the byte behind this one.
-    fn behind(self, byte: u8) -> Place {
+    fn behind(self, byte: u8) -> Place
+        ensures { result ≡ place_behind self byte }
+    {
         match self {
             Place::Escaped => Place::Plain,
             Place::EscapedInClass => Place::Class,
@@ -42,7 +46,9 @@ impl Place {
     }
 
     // Whether the byte that stands here is found as it is.
-    fn is_literal(self) -> bool {
+    fn is_literal(self) -> bool
+        ensures { result ≡ is_literal self }
+    {
         match self {
             Place::Plain | Place::Opened => true,
             _ => false,
@@ -51,27 +57,36 @@ impl Place {
 }
 
 /// Whether a pattern has a letter from g to z, of either case, that stands for itself: no address has one.
-pub(crate) fn has_name(pattern: &[u8]) -> bool {
+pub(crate) fn has_name(pattern: &[u8]) -> bool
+    ensures { result ≡ has_name pattern.entry.now }
+{
     let mut place = Place::Plain;
-    for byte in pattern {
+    let mut left = pattern;
+    while let [byte, others @ ..] = left {
         if place.is_literal() && is_letter(*byte) {
             return true;
         }
         place = place.behind(*byte);
+        left = others;
     }
     false
 }
 
-fn is_letter(byte: u8) -> bool {
+fn is_letter(byte: u8) -> bool
+    ensures { result ≡ is_letter byte }
+{
     matches!(byte, b'g'..=b'z' | b'G'..=b'Z')
 }
 
 /// Whether a group of a pattern may hold a slash or a dot: a dot, a slash, a negated class or an escape of upper case
 /// stands behind the first parenthesis.
-pub(crate) fn may_hold_slash(pattern: &[u8]) -> bool {
+pub(crate) fn may_hold_slash(pattern: &[u8]) -> bool
+    ensures { result ≡ may_hold_slash pattern.entry.now }
+{
     let mut place = Place::Plain;
     let mut in_group = false;
-    for byte in pattern {
+    let mut left = pattern;
+    while let [byte, others @ ..] = left {
         if in_group && may_be_slash(place, *byte) {
             return true;
         }
@@ -79,11 +94,14 @@ pub(crate) fn may_hold_slash(pattern: &[u8]) -> bool {
             in_group = true;
         }
         place = place.behind(*byte);
+        left = others;
     }
     false
 }
 
-fn may_be_slash(place: Place, byte: u8) -> bool {
+fn may_be_slash(place: Place, byte: u8) -> bool
+    ensures { result ≡ may_be_slash place byte }
+{
     match place {
         Place::Plain | Place::Opened => matches!(byte, b'.' | b'/'),
         Place::Class => matches!(byte, b'^' | b'/'),

@@ -1,8 +1,9 @@
 //! The programs that lines and entries start.
-ghost use Rattle.std.specs.Prelude.{◌≤◌, OnOk};
+ghost use Rattle.std.specs.Prelude.{◌≡◌, ◌≤◌, IfOk, OnOk, string_bytes};
 ghost use Rattle.ldm_check.specs.Programs.{LooksFor};
+ghost use Rattle.ldm_check.specs.Warnings.{Missing, warning_view};
 
-use crate::lines::put_missing;
+use crate::warning::Warning;
 use ldm_outside::{FileRead, Reasons, Store};
 use ldm_types::OutOfMemory;
 use std::alloc::{AllocError, Global};
@@ -13,6 +14,23 @@ struct Started {
     file: String,
     line: u64,
     program: String,
+}
+
+impl Started {
+    // The warning that the program is not there, for that reason.
+    fn missing(&self, alloc: Global, reason: &[u8]) -> Result<Warning, AllocError>
+        ensures { IfOk result (λ warning. warning_view warning
+            ≡ Missing (string_bytes self.now.file) self.now.line (string_bytes self.now.program) reason.now) }
+    {
+        let mut copy = Vec::new(alloc);
+        copy.extend_from_slice(reason)?;
+        Ok(Warning::Missing(
+            String::from_str(alloc, self.file.as_str())?,
+            self.line,
+            String::from_str(alloc, self.program.as_str())?,
+            copy,
+        ))
+    }
 }
 
 /// The programs that the lines seen so far start, and that are looked for once all files were read.
@@ -58,20 +76,14 @@ impl Programs {
         &self,
         alloc: Global,
         store: &mut F,
-        text: &mut Vec<u8>,
+        warnings: &mut Vec<Warning>,
     ) -> Result<(), OutOfMemory>
         ensures asked { OnOk result (LooksFor (F.tells store.old) (F.tells store.new)) }
         ensures faults_kept { (F.tells store.old).faults ≤ (F.tells store.new).faults }
     {
         for one in &self.started {
             match store.read_file(alloc, one.program.as_str(), 0) {
-                FileRead::Failed => put_missing(
-                    text,
-                    one.file.as_bytes(),
-                    one.line,
-                    one.program.as_bytes(),
-                    store.reason(),
-                )?,
+                FileRead::Failed => warnings.push(one.missing(alloc, store.reason())?)?,
                 FileRead::OutOfMemory => return Err(OutOfMemory),
                 FileRead::Bytes(_) | FileRead::TooLong => {}
             }

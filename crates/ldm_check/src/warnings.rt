@@ -1,14 +1,17 @@
 //! Warnings: of what is no fault, and yet may not do what was meant.
 
-ghost use Rattle.std.specs.Prelude.{◌≤◌, length, OnOk};
+ghost use Rattle.std.specs.Prelude.{◌≡◌, ◌∷◌, ◌++◌, ◌≤◌, [], drop, length, OnOk};
 ghost use Rattle.ldm_text.specs.declared.limits.TheConstants.{LONGEST_CONFIGURATION};
+ghost use Rattle.ldm_check.specs.Concerns.{behind_blanks, end_warnings, entry_warnings, field_of, is_group};
+ghost use Rattle.ldm_check.specs.Concerns.{names_group, request_warnings, second_field};
 ghost use Rattle.ldm_check.specs.Programs.{LooksFor};
+ghost use Rattle.ldm_check.specs.Warnings.{OfLine, warning_views};
 
-use crate::lines::{put_file, put_warning};
 use crate::patterns::{has_name, may_hold_slash};
 use crate::programs::Programs;
 use crate::said::take_word;
 use crate::source::{Line, without_return};
+use crate::warning::{Concern, Warning};
 use arrayvec::ArrayVec;
 use ldm_class::Reduced;
 use ldm_conf::Conf;
@@ -31,7 +34,7 @@ const THIS_MACHINE: &[u8] = b"127.0.0.1";
 /// The warnings of files, and what is seen so far of an ldmd.conf.
 #[derive(Drop)]
 pub(crate) struct Warnings {
-    pub text: Vec<u8>,
+    pub list: Vec<Warning>,
     pub programs: Programs,
     // How many REQUEST lines it has.
     requests: u32,
@@ -43,7 +46,7 @@ impl Warnings {
     /// No warnings.
     pub(crate) fn new(alloc: Global) -> Warnings {
         Warnings {
-            text: Vec::new(alloc),
+            list: Vec::new(alloc),
             programs: Programs::new(alloc),
             requests: 0,
             lets_in: false,
@@ -57,15 +60,16 @@ impl Warnings {
     }
 
     /// Ends with an ldmd.conf.
-    pub(crate) fn end(&mut self, path: &str) -> Result<(), AllocError> {
+    pub(crate) fn end(&mut self, alloc: Global, path: &str) -> Result<(), AllocError>
+        ensures { OnOk result (warning_views self.new.list.items
+            ≡ warning_views self.old.list.items ++ end_warnings path.now self.old.lets_in) }
+    {
         if self.lets_in {
             return Ok(());
         }
-        put_file(
-            &mut self.text,
-            path.as_bytes(),
-            b"warning: no ALLOW line lets a tool of this machine (127.0.0.1) in",
-        )
+        self.list
+            .push(Warning::NoTool(String::from_str(alloc, path)?))?;
+        Ok(())
     }
 
     /// Looks at a line of the file under the path, and at what it alone means.
@@ -76,8 +80,8 @@ impl Warnings {
         line: &Line<'_>,
         conf: &Conf,
     ) -> Result<(), OutOfMemory> {
-        self.look_at_rule(path, line)?;
-        self.look_at_requests(path, line, conf)?;
+        self.look_at_rule(alloc, path, line)?;
+        self.look_at_requests(alloc, path, line, conf)?;
         self.note_commands(alloc, path, line, conf)?;
         if !self.lets_in {
             self.lets_in = lets_in(alloc, conf)?;
@@ -86,31 +90,29 @@ impl Warnings {
     }
 
     // Warns of an ALLOW or an ACCEPT line that meets nobody.
-    fn look_at_rule(&mut self, path: &str, line: &Line<'_>) -> Result<(), AllocError> {
+    fn look_at_rule(
+        &mut self,
+        alloc: Global,
+        path: &str,
+        line: &Line<'_>,
+    ) -> Result<(), AllocError> {
         let Some(rule) = rule_of(without_return(line.text)) else {
             return Ok(());
         };
         let number = u64::from(line.number);
         if is_none(rule.feedtype) {
-            self.warn(
-                path,
-                number,
-                b"the feedtype has no member, so the line lets nobody in",
-            )?;
+            self.warn(alloc, path, number, Concern::NoMember)?;
         }
         if has_name(rule.host) {
-            self.warn(
-                path,
-                number,
-                b"the host pattern has letters of a name, and hosts are known by their addresses",
-            )?;
+            self.warn(alloc, path, number, Concern::HasName)?;
         }
         Ok(())
     }
 
-    // Warns of the first REQUEST line that leaves too few workers, and of the first that is one too many.
+    // Counts the REQUEST lines.
     fn look_at_requests(
         &mut self,
+        alloc: Global,
         path: &str,
         line: &Line<'_>,
         conf: &Conf,
@@ -120,20 +122,25 @@ impl Warnings {
         }
         let before = self.requests;
         self.requests = before.saturating_add(1);
-        let number = u64::from(line.number);
+        self.look_at_request(alloc, path, u64::from(line.number), before)
+    }
+
+    // Warns of the first REQUEST line that leaves too few workers, and of the first that is one too many.
+    fn look_at_request(
+        &mut self,
+        alloc: Global,
+        path: &str,
+        number: u64,
+        before: u32,
+    ) -> Result<(), AllocError>
+        ensures { OnOk result (warning_views self.new.list.items
+            ≡ warning_views self.old.list.items ++ request_warnings path.now number before) }
+    {
         if before == USUAL_REQUESTS {
-            return self.warn(
-                path,
-                number,
-                b"more than 59 REQUEST lines: with the 4 workers of a node without -w they are more than 63",
-            );
+            return self.warn(alloc, path, number, Concern::FewWorkers);
         }
         if before == MOST_REQUESTS {
-            return self.warn(
-                path,
-                number,
-                b"more than 63 REQUEST lines, and a node has no worker for this one",
-            );
+            return self.warn(alloc, path, number, Concern::NoWorker);
         }
         Ok(())
     }
@@ -190,17 +197,16 @@ impl Warnings {
         number: u64,
         line: &[u8],
         entry: &Entry,
-    ) -> Result<(), AllocError> {
+    ) -> Result<(), AllocError>
+        ensures { OnOk result (warning_views self.new.list.items
+            ≡ warning_views self.old.list.items ++ entry_warnings path.now number line.now entry.now.words) }
+    {
         let [first, ..] = entry.words() else {
             return Ok(());
         };
         let word = first.bytes();
         if names_group(word) && may_hold_slash(second_field(line)) {
-            self.warn(
-                path,
-                number,
-                b"a group of the pattern stands in the path, and may hold a slash or two dots",
-            )?;
+            self.warn(alloc, path, number, Concern::GroupInPath)?;
         }
         match entry.action() {
             ActionKind::Pipe | ActionKind::Exec => self.programs.note(alloc, path, number, word),
@@ -237,12 +243,23 @@ impl Warnings {
         ensures asked { OnOk result (LooksFor (F.tells store.old) (F.tells store.new)) }
         ensures faults_kept { (F.tells store.old).faults ≤ (F.tells store.new).faults }
     {
-        self.programs.look_for(alloc, store, &mut self.text)
+        self.programs.look_for(alloc, store, &mut self.list)
     }
 
-    // Appends `FILE:LINE: warning: ..`.
-    fn warn(&mut self, path: &str, number: u64, words: &[u8]) -> Result<(), AllocError> {
-        put_warning(&mut self.text, path.as_bytes(), number, words)
+    // Adds a warning of a line.
+    fn warn(
+        &mut self,
+        alloc: Global,
+        path: &str,
+        number: u64,
+        concern: Concern,
+    ) -> Result<(), AllocError>
+        ensures { OnOk result (warning_views self.new.list.items
+            ≡ warning_views self.old.list.items ++ OfLine path.now number concern ∷ []) }
+    {
+        let path = String::from_str(alloc, path)?;
+        self.list.push(Warning::OfLine(path, number, concern))?;
+        Ok(())
     }
 }
 
@@ -303,22 +320,54 @@ fn is_none(feedtype: &[u8]) -> bool {
 }
 
 // Whether a path or the name of a program has a form `\1` to `\9`.
-fn names_group(word: &[u8]) -> bool {
+fn names_group(word: &[u8]) -> bool
+    ensures { result ≡ names_group word.entry.now }
+{
     let mut escaped = false;
-    for byte in word {
-        if escaped && matches!(*byte, b'1'..=b'9') {
+    let mut left = word;
+    while let [byte, others @ ..] = left {
+        if escaped && is_group(*byte) {
             return true;
         }
         escaped = *byte == b'\\';
+        left = others;
     }
     false
 }
 
+fn is_group(byte: u8) -> bool
+    ensures { result ≡ is_group byte }
+{
+    matches!(byte, b'1'..=b'9')
+}
+
 // The second field of a line, between its first tabs and the next one: the pattern of an entry.
-fn second_field(line: &[u8]) -> &[u8] {
-    let behind = &line[place_of(b'\t', line)..];
-    let field = &behind[count_blanks(behind)..];
-    &field[..place_of(b'\t', field)]
+fn second_field(line: &[u8]) -> &[u8]
+    ensures { result.now ≡ second_field line.now }
+{
+    field_of(behind_blanks(behind(line, place_of(b'\t', line))))
+}
+
+// What stands before the first tab.
+fn field_of(text: &[u8]) -> &[u8]
+    ensures { result.now ≡ field_of text.now }
+{
+    &text[..place_of(b'\t', text)]
+}
+
+// What stands behind the spaces and tabs that a text begins with.
+fn behind_blanks(text: &[u8]) -> &[u8]
+    ensures { result.now ≡ behind_blanks text.now }
+{
+    behind(text, count_blanks(text))
+}
+
+// What stands behind so many bytes.
+fn behind(text: &[u8], count: usize) -> &[u8]
+    requires { count ≤ length text.now }
+    ensures { result.now ≡ drop count text.now }
+{
+    &text[count..]
 }
 
 // Whether an ALLOW line lets a tool of this machine in.

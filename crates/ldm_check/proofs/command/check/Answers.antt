@@ -1,4 +1,5 @@
 use Rattle.std.proofs.Common.{inl, inr}
+use Rattle.ldm_check.specs.Warnings.{warning_views}
 use Rattle.ldm_check.proofs.command.check.Goals as goal
 
 pub returns-clause-ends : goal.returns-clause-ends
@@ -7,6 +8,6 @@ returns-clause-ends g c =
     inl (record {
       faults = c.in-Ok.search.faults.items;
       finds = c.in-Ok.ensures.found;
-      warnings = c.in-Ok.search.warnings.text.items;
+      warnings = warning_views c.in-Ok.search.warnings.list.items;
       writes = inr (written.0, written.1, c.report-in-Err.ensures.reports);
     })
