@@ -33,7 +33,7 @@ run_beside() {
     help_beside=$1
     shift
     case ${1-} in
-    status | page | from-ldm6)
+    status | page | from-ldm6 | to-wis2 | from-wis2)
         help_name=$1
         shift
         # it asks nodes by this script
