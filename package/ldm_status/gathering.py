@@ -41,6 +41,12 @@ class Told:
         self.log = None
         self.now = time.time()
 
+    def journal_faults(self):
+        """What the log tells of the node's journal since the node began, and when: a node that was started anew has opened it again."""
+        for line, (_, last) in self.log.journal.items():
+            if line.startswith("journal") and not (last and self.began and last < self.began):
+                yield line, last
+
 
 def gather(node, conf=None, log=None, unit=None):
     told = Told(node)
@@ -101,13 +107,13 @@ def connection(told, request, process):
             return True, "connected"
     host = told.log.hosts.get(request.host) if told.log else None
     if host is not None and host.last and (process or host.is_away(told.now)):
-        ago = f", {age_text(told.now - host.when)} ago" if host.when else ""
-        return False, f"last line: {host.last}{ago}"
+        ago = f" {age_text(told.now - host.when)} ago" if host.when else ""
+        return False, f"not reached{', last try' + ago if ago else ''}" if host.last == reading.UNREACHED else f"its last session{ago}: {host.last}"
     if process:
         return False, "not connected"
     if told.log is None:
         return None, "not known: no log"
-    return True, "connected, as the log has no fault" + ("" if host is None or not host.last else " since the last one")
+    return True, "connected, by the log"
 
 
 def age_text(seconds):

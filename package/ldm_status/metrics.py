@@ -37,9 +37,8 @@ def families(told):
         yield "ldm_lost_last_hour", "Products, or lines of the log, lost in the last hour.", [
             ({"how": word}, told.log.losses[what]) for what, word in LOSSES.items()
         ]
-        yield "ldm_journal_faulty", "Whether the log tells of a fault of the journal.", [
-            ({}, int(any(line.startswith("journal") for line in told.log.journal)))
-        ]
+        faults = list(told.journal_faults())
+        yield "ldm_journal_faulty", "Whether the log tells of a fault of the journal since the node began.", [({}, int(bool(faults)))]
         hosts = list(told.log.hosts.items())[:MOST_HOSTS]
         lost = [({"host": name}, host.lost) for name, host in hosts]
         yield "ldm_host_lost_last_day", "Products evicted before the host was sent them.", lost

@@ -18,7 +18,7 @@ MOST_FEEDS = 40
 def faults(told):
     """What is wrong, gravest first: each a word and a sentence."""
     if told.figures is None:
-        yield "DOWN", REASONS.get(told.reason, BUSY if "no answer" in told.reason else told.reason)
+        yield "DOWN", REASONS.get(told.reason, BUSY if "no answer" in told.reason else told.reason.removeprefix("ldm: "))
         return
     late = [asked for asked in told.asked if asked.habit.is_late(told.now)]
     covered = 0
@@ -30,15 +30,14 @@ def faults(told):
             yield "BEHIND", f"{feed_name(feed)}: {gap_text(habit, told.now)}"
     for asked in told.asked:
         if asked.connected is False:
-            yield "AWAY", f"{asked.request.host}:{asked.request.port} does not feed: {asked.why}"
+            yield "AWAY", f"the upstream {asked.request.host}:{asked.request.port} is away: {asked.why}"
     if told.reason:
         yield "SILENT", f"its products are not known: {told.reason.removeprefix('ldm: ')}"
     if told.log:
         for what, count in told.log.losses.items():
             yield "LOSING", f"{count_text(count)} {what} {when(told.log)}"
-        for line, (_, last) in told.log.journal.items():
-            if line.startswith("journal"):
-                yield "JOURNAL", f"{line}: the queue is not kept any more" + (f", {age_text(told.now - last)} ago" if last else "")
+        for line, last in told.journal_faults():
+            yield "JOURNAL", f"{line}: the file does not keep the queue" + (f" since {age_text(told.now - last)}" if last else "")
 
 
 def gap_text(habit, now):
@@ -52,14 +51,14 @@ def when(log):
 def status(told):
     """The text, and whether all is well."""
     found = list(faults(told))
-    lines = [f"{told.node}: {found[0][0] if found else 'WELL'}"]
+    lines = [f"{told.node}: {found[0][0] if found else 'OK'}"]
     lines += [f"  {said}" for _, said in found]
     if told.figures is not None:
         lines += ["", *figures(told)]
         parts = (
             (["request", "last product", "usual gap", "upstream"], requests(told)),
             (["feed", "last product", "usual gap", "queued"], feeds(told)),
-            (["host", "sessions of a day", "not reached", "lost", "last line"], hosts(told)),
+            (["host", "sessions", "not reached", "lost", "last"], hosts(told)),
         )
         for head, rows in parts:
             rows = list(rows)
@@ -82,11 +81,11 @@ def figures(told):
     yield f"admitted  {count_text(queue.admitted)} products since then"
     yield f"queue     {count_text(queue.queued)} products in {bytes_text(queue.used)}, {count_text(queue.held)} regions held"
     if told.oldest is not None:
-        yield f"oldest    {age_text(told.now - told.oldest / 1e6)}, by its arrival"
-        yield f"newest    {age_text(told.all.age(told.now))}"
+        yield f"oldest    {age_text(told.now - told.oldest / 1e6)} old, by its arrival"
+        yield f"newest    {age_text(told.all.age(told.now))} old"
     if told.links is not None:
-        by_peer = ", ".join(f"{count} of {peer}" for peer, count in told.links.most_common(MOST_HOSTS))
-        yield f"links     {count_text(sum(told.links.values()))} to its port" + (f": {by_peer}" if by_peer else "")
+        by_peer = ", ".join(f"{peer} ({count})" for peer, count in told.links.most_common(MOST_HOSTS))
+        yield f"peers     {by_peer or 'none'} connected"
 
 
 def last_text(habit, now):
