@@ -31,11 +31,17 @@ pub fn drive<R: Input + Print + Files + AllocGlobal, F: FnMut(&mut Trial)>(
 
 // Prints an answer, or the name of the file that has it.
 fn print_answer<R: Print + Files + AllocGlobal>(rt: &R, file: &str, told: &str) -> io::Result<()> {
-    if !file.is_empty() && text_of(rt, file)?.as_str() == told {
+    if !file.is_empty() && is_in_file(rt, file, told)? {
         println!(rt; "as {file}")
     } else {
         println!(rt; "{told}")
     }
+}
+
+// Whether a file has that answer, whose words may name files too.
+fn is_in_file<R: Files + AllocGlobal>(rt: &R, file: &str, told: &str) -> io::Result<bool> {
+    let text = text_of(rt, file)?;
+    Ok(with_files(rt, &text)?.as_str() == told)
 }
 
 // The file that has the answer to a case, where it is not printed, and the case.
