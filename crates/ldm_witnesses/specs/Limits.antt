@@ -76,7 +76,7 @@ pub record QueueLimits : Type 0 where
 -- Scripts, their lines and answers.
 pub record ScriptLimits : Type 0 where
   pub longest_line : lines.LONGEST_LINE ≡ 65536
-  pub longest_read : lines.LONGEST_READ ≡ 4096
+  pub longest_read : answers.LONGEST_READ ≡ 4096
   pub longest_answer : answers.LONGEST_ANSWER ≡ 16384
   pub longest_body : bodies.LONGEST_BODY ≡ 1048576
   pub script_limit : plays.SCRIPT_LIMIT ≡ 1099511627776
