@@ -2,8 +2,9 @@
 """Runs `ldm wmo` over streams in given pieces, beside a node in plain Python that answers by a plan, and compares all
 that it does with a plain program: each PUT byte for byte, the lines of the answers, the log, and the status.
 
-What a stream has is told by a regular expression, which is the grammar of docs/wmo.md. A PUT may go out only after the
-answer to the one before, and behind the line of that answer; what the log and the output have by then is looked at too.
+What a stream has, on a line and in frames, is told by regular expressions, which are the grammar of docs/wmo.md. A PUT
+may go out only after the answer to the one before, and behind the line of that answer; what the log and the output have
+by then is looked at too.
 
 Called as: tests/wmo.py [PROGRAM]
 """
@@ -25,7 +26,11 @@ from runs import (
 
 LARGEST = 1_048_576
 HEADING = rb"[A-Z]{4}[0-9]{2} [A-Z0-9]{4} [0-9]{6}(?: [A-Z]{3})?"
-BULLETIN = re.compile(rb"\x01\r\r\n([0-9]{1,5})[ \t]*\r\r\n(" + HEADING + rb")[ \t]*\r\r\n[^\x01\x03]*\r\r\n\x03")
+FRONT = rb"\x01\r\r\n([0-9]{1,5})[ \t]*\r\r\n(" + HEADING + rb")[ \t]*\r\r\n"
+BULLETIN = re.compile(FRONT + rb"[^\x01\x03]*\r\r\n\x03")
+BINARY = re.compile(FRONT + rb".*\r\r\n\x03", re.DOTALL)
+HEAD = re.compile(rb"([0-9]{8})(AN|BI|FX)")
+FILE_END = b"00000000"
 MARK = re.compile(rb"[\x01\x03]")
 
 PLAIN_HEADING = b"SAUS44 KWBC 010000"
@@ -37,10 +42,44 @@ def bulletin(digits=b"001", heading=PLAIN_HEADING, text=b"TEXT", blanks=b"", beh
 
 GOOD = bulletin()
 BAD = bulletin(heading=PLAIN_HEADING.lower())
+# a text that begins and ends bulletins in other framings
+MARKS = b"\x01\x03NNNN\r\r\n\x03\x01\r\r\nZCZC 001\r\r\n\xff\x00BUFR7777"
+BINARIES = [bulletin(b"%d" % i, b"ISMD01 EDZW 01000%d" % i, MARKS * i) for i in range(4)]
 # between noise and what is no bulletin, up to one that the end cuts off
 ROW = b"\0\0" + GOOD + b"\x01A\x01"
 
+def frame(message, kind=b"BI", size=None):
+    return b"%08d%s" % (len(message) if size is None else size, kind) + message
+
+
 # The plain program
+
+
+def found_in_frames(stream):
+    """Of each frame where it begins, whether the stream has all of it, and the match of its bulletin, if it is one."""
+    at = 0
+    while at < len(stream):
+        if stream.startswith(FILE_END, at):
+            at += len(FILE_END)
+            continue
+        head = HEAD.fullmatch(stream, at, at + 10)
+        size = int(head[1]) if head else 0
+        message = stream[at + 10 : at + 10 + size]
+        if len(stream) < at + 10 or (1 <= size <= LARGEST and len(message) < size):
+            yield at, False, None
+            return
+        fits = 1 <= size <= LARGEST and message[0] == 1 and message[-1] == 3
+        form = BULLETIN if head and head[2] == b"AN" else BINARY
+        yield at, True, form.fullmatch(message) if fits else None
+        if not fits:
+            return
+        at += 10 + size
+
+
+def found_on_a_line(stream):
+    """The same of each candidate."""
+    for at, candidate, ends in candidates(stream):
+        yield at, ends, BULLETIN.fullmatch(candidate) if ends else None
 
 
 def candidates(stream):
@@ -59,17 +98,16 @@ def candidates(stream):
 class Plain:
     """What comes of a stream: the steps of a run, each a product that is put or a line of the log; and how it ends."""
 
-    def __init__(self, stream, answers, feed=IDS, origin=b"localhost"):
+    def __init__(self, stream, answers, feed=IDS, origin=b"localhost", framed=False):
         self.steps = []
         self.status = 0
         self.output = b""
         self.log = b""
         self.answers = iter(answers)
-        for at, candidate, ends in candidates(stream):
-            found = ends and BULLETIN.fullmatch(candidate)
+        for at, ends, found in (found_in_frames if framed else found_on_a_line)(stream):
             if not found:
                 self.add_line(b"%s bulletin at %d\n" % (b"bad" if ends else b"cut", at))
-            elif not self.put(Product(found[2], candidate, feed, int(found[1]), origin, signed=digest_of(found))):
+            elif not self.put(Product(found[2], found[0], feed, int(found[1]), origin, signed=digest_of(found))):
                 return
         if self.status == 79:
             self.log += b"ldm: refused\n"
@@ -93,7 +131,7 @@ class Plain:
 
 
 def digest_of(found):
-    return hashlib.md5(found.string[found.start(2) :]).digest()
+    return hashlib.md5(found[0][found.start(2) - found.start() :]).digest()
 
 
 # The node
@@ -130,9 +168,11 @@ def expect_run(ran, wanted, what):
     COUNTS["log lines"] += ran.log.count(b"\n")
 
 
-def play(place, stream, what, answers=None, pieces=None, words=(), spell=reply, one_by_one=True, **product):
+def play(place, stream, what, answers=None, pieces=None, words=(), spell=reply, one_by_one=True, **said):
     """Runs `wmo` over the stream in these pieces beside a node that answers so, and compares all with what is due."""
-    plain = Plain(stream, answers or admissions(), **product)
+    plain = Plain(stream, answers or admissions(), **said)
+    if said.get("framed"):
+        words = ["-s", *words]
     with Upstream() as upstream, start(place, upstream, *words) as run, accept(upstream) as peer:
         feeder = threading.Thread(target=run.give, args=(pieces or [stream], one_by_one))
         feeder.start()
@@ -311,6 +351,116 @@ def finds_all_that_was_drawn(place):
         play(place, stream, f"the drawn stream {seed}", answers, list(drawn_pieces(draw, stream, 700)))
 
 
+# Frames
+
+
+def framed_row():
+    """Text, binary and a facsimile, the end of a file, bulletins that are none, and a frame that is cut."""
+    whole = [frame(GOOD, b"AN"), *map(frame, BINARIES), frame(BINARIES[1], b"FX"), FILE_END]
+    none = [frame(BINARIES[2], b"AN"), frame(BAD), frame(b"\x01\x03"), frame(b"\x01\x01ZCZC\x03\x03", b"FX")]
+    return b"".join([*whole, *none, FILE_END, FILE_END, frame(GOOD), frame(BINARIES[3])[:-1]])
+
+
+def takes_frames_cut_anywhere(place):
+    """A stream of frames in two pieces at each place, and byte by byte; and each front of it."""
+    row = framed_row()
+    plain = play(place, row, "frames", framed=True)
+    told = [product.ident for product, _, _ in plain.steps]
+    headings = [b"ISMD01 EDZW 01000%d" % i for i in range(4)]
+    expect(told, [PLAIN_HEADING, *headings, headings[1], PLAIN_HEADING], "the bulletins that the plain program tells")
+    expect(plain.log.count(b"bad"), 4, "the bad ones that the plain program tells")
+    for cut in range(0, len(row), 7):
+        play(place, row, f"frames cut at {cut}", pieces=in_two(row, cut), framed=True)
+        play(place, row[:cut], f"the first {cut} bytes of frames", framed=True)
+    play(place, row, "frames byte by byte", pieces=single_bytes(row), framed=True)
+    for before in range(65_536 - 61, 65_536 + 2, 5):
+        long = frame(bulletin(text=b"\x03" * (before - len(frame(bulletin(text=b""))))))
+        expect(len(long), before, "the bytes of a frame")
+        play(place, long + row, f"frames behind one of {before} bytes", framed=True)
+
+
+def frames_that_are_none():
+    """What ends the run, by what it is."""
+    size = len(BINARIES[1])
+    for other in (-1, 1, -size, -size + 1, 10, LARGEST, 99_999_999 - size):
+        yield f"a length that is {other} more", frame(BINARIES[1], size=size + other)
+    for kind in (b"XX", b"an", b"BI ", b"NB", b"A", b"", b"\0\0", b"00"):
+        yield f"the type {kind!r}", frame(BINARIES[1], kind)
+    digits = b"%08d" % size
+    for at in range(8):
+        for byte in (b" ", b"/", b":", b"-", b"\xb2", b"A"):
+            yield f"{byte!r} for a digit", digits[:at] + byte + digits[at + 1 :] + b"BI" + BINARIES[1]
+    yield "a length of no bytes", b"00000000BI" + GOOD
+    yield "seven zeros", FILE_END[1:] + frame(GOOD)
+    yield "nine zeros", FILE_END + b"0" + frame(GOOD)
+    yield "a message without its first byte", frame(GOOD[1:])
+    yield "a message without its last byte", frame(GOOD[:-1])
+    yield "a bulletin without a frame", GOOD
+    yield "noise before a frame", b"\n" + frame(GOOD)
+    yield "noise behind a frame", frame(GOOD) + b"\r\n" + frame(GOOD)
+
+
+def ends_at_a_frame_that_is_none(place):
+    """A frame that is none is bad, and nothing behind it is sent."""
+    row = framed_row()
+    for what, stream in frames_that_are_none():
+        plain = play(place, frame(GOOD) + stream + row * 3, what, framed=True)
+        if len(plain.steps) > 3 or not plain.log.startswith((b"bad", b"cut")):
+            raise Wrong(f"{what} is taken for a frame by the plain program")
+        stream = frame(GOOD) + stream
+        for cut in range(len(frame(GOOD)), len(frame(GOOD)) + 12, 5):
+            play(place, stream, f"{what}, cut at {cut}", pieces=in_two(stream, cut), framed=True)
+    # the refusal before it is met first
+    play(place, frame(GOOD) + b"x" * 10 + row, "a refusal before it", [REFUSALS[0]], framed=True)
+    play(place, b"x" * 10 + row, "no bulletin before it", framed=True)
+
+
+def keeps_the_largest_frame(place):
+    """Bulletins of one byte less than the most, of the most, and of one more, each before another frame."""
+    besides = len(bulletin(text=b""))
+    for size in (LARGEST - 1, LARGEST, LARGEST + 1):
+        whole = frame(bulletin(text=b"\x01" * (size - besides)))
+        expect(len(whole), size + 10, "the bytes of a frame")
+        play(place, whole + frame(GOOD), f"a frame of {size} bytes", one_by_one=False, framed=True)
+        for cut in (len(whole) - 1, len(whole), 9, 10, 11):
+            pieces = in_two(whole + frame(GOOD), cut)
+            play(place, whole + frame(GOOD), f"a frame of {size} bytes, cut at {cut}", pieces=pieces, framed=True)
+
+
+def drawn_frame(draw):
+    """A frame, whose bulletin may be none; or the end of a file."""
+    heading = bytes(draw.choices(b"ABXYZ", k=4)) + b"%02d KWBC %06d" % (draw.randrange(100), draw.randrange(1_000_000))
+    text = draw.randbytes(draw.choice([0, 10, 3_500, 90_000]))
+    kind = draw.choice([b"AN", b"BI", b"BI", b"FX"])
+    text = text.translate(None, b"\x01\x03") if kind == b"AN" and draw.randrange(3) else text
+    whole = bulletin(b"%0*d" % (draw.randint(1, 5), draw.randrange(10)), heading, text)
+    if draw.randrange(8) == 0:
+        at = draw.randrange(1, min(len(whole), 40) - 1)
+        whole = whole[:at] + draw.choice(single_bytes(b"\x01\x03\r\n A0z")) + whole[at + 1 :]
+    return FILE_END if draw.randrange(10) == 0 else frame(whole, kind)
+
+
+def finds_all_frames_that_were_drawn(place):
+    """Ten million drawn bytes of frames; and streams of a few, of which a byte may be another."""
+    draw = random.Random(21)
+    stream = bytearray()
+    while len(stream) < 10_000_000:
+        stream += drawn_frame(draw)
+    stream = bytes(stream)
+    answers = (draw.choice(REFUSALS) if draw.randrange(4) == 0 else one for one in admissions())
+    pieces = list(drawn_pieces(draw, stream, 150_000))
+    plain = play(place, stream, "drawn frames", answers, pieces, one_by_one=False, framed=True)
+    if len(plain.steps) < 200 or plain.log.count(b"bad") < 20:
+        raise Wrong(f"the drawn frames have {len(plain.steps)} bulletins and {plain.log.count(b'bad')} bad ones")
+    for seed in range(40):
+        draw = random.Random(seed)
+        stream = bytearray(b"".join(drawn_frame(draw) for _ in range(6)))
+        if draw.randrange(2):
+            stream[draw.randrange(len(stream))] = draw.choice(b"\x01\x03\r\n A0z19")
+        stream = bytes(stream)
+        play(place, stream, f"the drawn frames {seed}", pieces=list(drawn_pieces(draw, stream, 700)), framed=True)
+
+
 # Answers
 
 
@@ -372,8 +522,10 @@ def says_words(place):
     for words, product in cases:
         play(place, GOOD + BAD + GOOD, f"wmo {words}", words=words, **product)
     wrong = [
-        ["x"], ["-f", "FOO"], ["-f", ""], ["-f"], ["-o", "o" * 65], ["-o", "é" * 33], ["-q", HOST], ["-q", f"{HOST}:0"],
-        ["-p", "i"], ["-c", "1"], ["-i"], ["-w", "1"], ["-o", "a", "-o", "a"], ["-f", "IDS", "-f", "IDS"],
+        ["x"], ["-f", "FOO"], ["-f", ""], ["-f"], ["-o", "o" * 65], ["-o", "é" * 33], ["-q", HOST],
+        ["-q", f"{HOST}:0"],
+        ["-s", "-s"], ["-s1"], ["-s", "x"], ["-p", "i"], ["-c", "1"], ["-i"], ["-w", "1"], ["-z"],
+        ["-o", "a", "-o", "a"], ["-f", "IDS", "-f", "IDS"],
     ]  # fmt: skip
     for words in wrong:
         with Run(place, ["wmo", *words]) as run:
@@ -575,6 +727,10 @@ CASES = [
     keeps_the_grammar,
     keeps_the_largest,
     finds_all_that_was_drawn,
+    takes_frames_cut_anywhere,
+    ends_at_a_frame_that_is_none,
+    keeps_the_largest_frame,
+    finds_all_frames_that_were_drawn,
     tells_the_answers,
     hears_one_byte_at_a_time,
     says_words,

@@ -20,6 +20,8 @@ use Rattle.ldm_pqstats.specs.Runs as pqstats
 use Rattle.ldm_pqstats.specs.declared.asked.StatsAsked.{StatsAsked}
 use Rattle.ldm_watch.specs.declared.form.NoticeForm.{NoticeForm}
 use Rattle.ldm_watch.specs.declared.form.NoticeForm.TheVariants.{Numbers, Names}
+use Rattle.ldm_wmo.specs.declared.framing.Framing.{Framing}
+use Rattle.ldm_wmo.specs.declared.framing.Framing.TheVariants.{Line, Socket}
 use Rattle.ldm_wmo.specs.Ingesting.{Ingesting}
 use Rattle.ldm_wmo.specs.Moments as wmo_command
 use Rattle.ldm_words.specs.Forms.{ActForm, CatForm, ChainForm, InsertForm, NodeForm, NoticesForm, SaveForm, StatsForm, WmoForm}
@@ -51,8 +53,13 @@ inserting_of insert = record {
   files = insert.files;
 }
 
+-- how bulletins stand in a stream: on a line, or in frames
+abbrev pub framing_of : Bool → Framing
+framing_of true = Socket
+framing_of false = Line
+
 abbrev pub ingesting_of : WmoForm → Ingesting
-ingesting_of wmo = record { peer = asked_of wmo.peer; feed = wmo.feed; origin = wmo.origin }
+ingesting_of wmo = record { framing = framing_of wmo.socket; peer = asked_of wmo.peer; feed = wmo.feed; origin = wmo.origin }
 
 -- the size of the queue that is saved
 abbrev pub size_of : SaveForm → Size

@@ -5,7 +5,7 @@ ghost use Rattle.ldm_words.specs.Views.{act_view, cat_view, insert_view, mon_vie
 ghost use Rattle.ldm_words.specs.Views.{stats_view, wmo_view};
 ghost use Rattle.ldm_commands.specs.Command as form;
 ghost use Rattle.ldm_commands.specs.Doing.{Done};
-ghost use Rattle.ldm_commands.specs.Lent.{form_of};
+ghost use Rattle.ldm_commands.specs.Lent.{form_of, framing_of};
 ghost use Rattle.ldm_commands.specs.World.{kept_desk_of, tells_of, world_view};
 ghost use Rattle.ldm_disk.specs.Desks.{desk_tells};
 
@@ -17,7 +17,7 @@ use ldm_pqact_command::ActOrder;
 use ldm_pqstats::{StatsAsked, pqstats};
 use ldm_tools::{Insertion, pqinsert, pqmon, pqmon_every};
 use ldm_watch::{NoticeForm, NoticesAsked, notifyme};
-use ldm_wmo::{Ingestion, ingest};
+use ldm_wmo::{Framing, Ingestion, ingest};
 use ldm_words::{ActWords, CatWords, InsertWords, MonWords, NoticesWords, StatsWords, WmoWords};
 use std::alloc::Global;
 use std::sync::Wait;
@@ -285,6 +285,7 @@ pub(crate) fn put_bulletins<
         (desk_tells N.DeskDisk.tells N.StationLog.tells N.StationClock.tells N.StationGate.tells)) D.tells world.new) }
 {
     let ingestion = Ingestion {
+        framing: framing_of(words.socket),
         host: words.peer.host.as_slice(),
         port: words.peer.port,
         feed: words.feed,
@@ -299,6 +300,17 @@ pub(crate) fn put_bulletins<
         &mut world.clock,
         &ingestion,
     )
+}
+
+// How bulletins stand in a stream: on a line, or in frames.
+fn framing_of(socket: bool) -> Framing
+    ensures { result ≡ framing_of socket }
+{
+    if socket {
+        Framing::Socket
+    } else {
+        Framing::Line
+    }
 }
 
 /// Writes how much of the products of a node came in each hour.

@@ -14,6 +14,8 @@ use Rattle.ldm_tools.specs.declared.put_fault.PutFault.{PutFault}
 use Rattle.ldm_tools.specs.declared.put_fault.PutFault.TheVariants as put_fault
 use Rattle.ldm_tools.specs.Owing.{AreOwed, are_denied}
 use Rattle.ldm_tools.proofs.Followed.{followed, from_start, nothing_heard, told_all, told_denied, told_no_answer}
+use Rattle.ldm_wmo.specs.declared.framing.Framing.{Framing}
+use Rattle.ldm_wmo.specs.declared.framing.Framing.TheVariants.{Line, Socket}
 use Rattle.ldm_wmo.specs.Items.{Found, Bulletin, Bad}
 use Rattle.ldm_wmo.specs.Streams.{cut_at_end, items_of}
 use Rattle.ldm_wmo.specs.declared.ingest_fault.IngestFault.{IngestFault}
@@ -23,9 +25,10 @@ use Rattle.ldm_wmo.specs.Ingesting.{Ingesting, Report, product_of, reports_of}
 use Rattle.ldm_wmo.specs.Moments.{KeepsMoment, IngestMoment, Outside, Span, span_of}
 use Rattle.ldm_wmo.specs.Outcomes.{Step, cut_outcome, owed_of, then_of}
 use Rattle.ldm_wmo.specs.Owing.{Completes, IsNoMemory, IsServed, NoneRose, ending_owed}
-use Rattle.ldm_wmo.specs.Runs.{BreaksCut, Runs, SourceFails, StopsAt, StopsReading, TakesAll, TakesMost, bytes_of, items_behind, steps_of}
+use Rattle.ldm_wmo.specs.Runs.{BreaksCut, IsOver, Runs, SourceFails, StopsAt, StopsReading, TakesAll, TakesMost, bytes_of, items_behind, steps_of}
 use Rattle.ldm_wmo.specs.IngestTaking.{AreTaken, Breaks, BreaksPut}
 use Rattle.ldm_wmo.specs.Told.{answers_of, products_of}
+use Rattle.ldm_wmo.proofs.Lost.{SameFound, lost_found}
 use Rattle.ldm_wmo.proofs.Taken.{moment_then, taken_append}
 use Rattle.ldm_wmo.proofs.Whole.{items_joined, projected, whole}
 
@@ -48,6 +51,20 @@ all_given bytes given old mid new left gives same nothing =
     let none = left_none new.left f.0 (same ∙ f.1) nothing in
     f.2 ∙ ap (λ (x : List ℕ). given ++ x) none ∙ append-nil given
 
+-- What is found in all that is left is what is found in what was given: since that is all, or since nothing is found behind it.
+same_all : (framing : Framing) (bytes given : List ℕ) → bytes ≡ given → SameFound framing bytes given
+same_all framing bytes given is = record { items = ap (items_of framing) is; cut = ap (cut_at_end framing) is }
+
+over_found : (framing : Framing) (bytes given : List ℕ) (old mid new : SourceRecord) → old.left ≡ Some bytes → Gives old given mid → new.left ≡ mid.left → IsOver framing given mid new
+    → SameFound framing bytes given
+over_found Line bytes given old mid new left gives same over = same_all Line bytes given (all_given bytes given old mid new left gives same over.1)
+over_found Socket bytes given old mid new left gives same (inl at_end) =
+    same_all Socket bytes given (all_given bytes given old mid new left gives same at_end.1)
+over_found Socket bytes given old mid new left gives same (inr lost) =
+    let f = front_of mid.left bytes given (sym left ∙ gives) in
+    let P : List ℕ → Type 0 = λ b. SameFound Socket b given in
+    subst P (sym f.2) (lost_found Socket given f.0 lost.0)
+
 -- the bulletins of more items are more
 reports_append : (a b : List Found) → reports_of (a ++ b) ≡ reports_of a ++ reports_of b
 reports_append [] b = refl
@@ -63,24 +80,25 @@ module _ (all : Ingesting) (came left : LinkRecord) (old new : Outside) (given :
 
   -- ---- all was taken
 
-  taken_all : (met : Outcome) → TakesAll met all first last → Completes (Ok met) came old new
+  taken_all : (met : Outcome) → TakesAll met all first last → Completes (Ok met) all.framing came old new
   taken_all met takes = λ bytes stream owed served none.
-      let bytes_are : bytes ≡ bytes_of takes.turns =
-      all_given bytes (bytes_of takes.turns) first.source takes.mid.source last.source served.source (whole all takes.turns first takes.mid takes.takes.each).read takes.left takes.at_end.1 in
+      let same : SameFound all.framing bytes (bytes_of takes.turns) =
+      over_found all.framing bytes (bytes_of takes.turns) first.source takes.mid.source last.source served.source (whole all takes.turns first takes.mid takes.takes.each).read takes.left takes.at_end in
       let w = whole all takes.turns first takes.mid takes.takes.each in
       let steps = steps_of takes.turns in
-      let items = items_of (bytes_of takes.turns) in
+      let items = items_of all.framing (bytes_of takes.turns) in
       let p = projected all items steps first.moment takes.mid.moment w.taken in
-      let R : List ℕ → Type 0 = λ b. AreOwed (reports_of (items_of b)) owed in
+      let R : List Found → Type 0 = λ i. AreOwed (reports_of i) owed in
       let heard : owed ≡ answers_of steps =
       told_all (reports_of items) stream owed (products_of all items steps) (answers_of steps) first.moment.wire takes.mid.moment.wire (refl, refl) served.link served.says
-      (subst R bytes_are served.owed) (sym p.count) p.told in
+      (subst R same.items served.owed) (sym p.count) p.told in
       let f = followed stream (products_of all items steps) (answers_of steps) first.moment.wire takes.mid.moment.wire p.told (from_start stream came served.link) nothing_heard in
       let quiet : are_denied owed ≡ false = ap are_denied heard ∙ f.none in
-      let O : List PutAnswer → Outcome = λ a. then_of (owed_of (items_of bytes) a) (cut_outcome (cut_at_end bytes)) in
+      let O : List PutAnswer → Outcome = λ a. then_of (owed_of (items_of all.framing bytes) a) (cut_outcome (cut_at_end all.framing bytes)) in
       let there : met ≡ O owed =
-      takes.outcome_is ∙ ap (λ (m : Outcome). then_of m (cut_outcome (cut_at_end (bytes_of takes.turns)))) (sym p.owed)
-      ∙ ap (λ (b : List ℕ). then_of (owed_of (items_of b) (answers_of steps)) (cut_outcome (cut_at_end b))) (sym bytes_are) ∙ ap O (sym heard) in
+      takes.outcome_is ∙ ap (λ (m : Outcome). then_of m (cut_outcome (cut_at_end all.framing (bytes_of takes.turns)))) (sym p.owed)
+      ∙ ap (λ (i : List Found). then_of (owed_of i (answers_of steps)) (cut_outcome (cut_at_end all.framing (bytes_of takes.turns)))) (sym same.items)
+      ∙ ap (λ (c : Option ℕ). then_of (owed_of (items_of all.framing bytes) (answers_of steps)) (cut_outcome c)) (sym same.cut) ∙ ap O (sym heard) in
       let ends : Result Outcome IngestFault = Ok (O owed) in
       let denial : Result Outcome IngestFault = Err (fault.Put put_fault.Denied) in
       let is : Ok met ≡ ends = ap (λ (m : Outcome). let r : Result Outcome IngestFault = Ok m in r) there in
@@ -93,11 +111,11 @@ module _ (all : Ingesting) (came left : LinkRecord) (old new : Outside) (given :
     pub items : List Found
     pub steps : List Step
     pub behind : List Found
-    pub items_are : items_of bytes ≡ items ++ (item ∷ behind)
+    pub items_are : items_of all.framing bytes ≡ items ++ (item ∷ behind)
     pub taken : AreTaken all items steps first.moment mid
 
-  more_items : (seen rest : List ℕ) → items_of (seen ++ rest) ≡ items_of seen ++ items_behind seen rest
-  more_items seen rest = items_joined seen rest
+  more_items : (seen rest : List ℕ) → items_of all.framing (seen ++ rest) ≡ items_of all.framing seen ++ items_behind all.framing seen rest
+  more_items seen rest = items_joined all.framing seen rest
 
   before : (why : IngestFault) (bytes : List ℕ) → first.source.left ≡ Some bytes → (stops : StopsAt why all first last) → Before bytes stops.breaks.item stops.breaks.mid
   before why bytes is stops =
@@ -108,19 +126,19 @@ module _ (all : Ingesting) (came left : LinkRecord) (old new : Outside) (given :
       let g = front_of last.source.left f.0 stops.piece (sym f.1 ∙ stops.read) in
       let rest = g.0 in
       let whole_is : bytes ≡ (seen ++ stops.piece) ++ rest = f.2 ∙ ap (λ (x : List ℕ). seen ++ x) g.2 ∙ sym (append_assoc seen stops.piece rest) in
-      let tail : List Found = items_behind (seen ++ stops.piece) rest in
+      let tail : List Found = items_behind all.framing (seen ++ stops.piece) rest in
       record {
-        items = items_of seen ++ at.before;
+        items = items_of all.framing seen ++ at.before;
         steps = steps_of stops.turns ++ at.steps;
         behind = at.behind ++ tail;
-        items_are = ap items_of whole_is ∙ more_items (seen ++ stops.piece) rest ∙ ap (λ (x : List Found). x ++ tail) (more_items seen stops.piece)
-            ∙ ap (λ (x : List Found). (items_of seen ++ x) ++ tail) at.items_are ∙ append_assoc (items_of seen) (at.before ++ at.item ∷ at.behind) tail
-            ∙ ap (λ (x : List Found). items_of seen ++ x) (append_assoc at.before (at.item ∷ at.behind) tail) ∙ sym (append_assoc (items_of seen) at.before (at.item ∷ (at.behind ++ tail)));
-        taken = taken_append all (items_of seen) at.before (steps_of stops.turns) at.steps first.moment stops.mid.moment at.mid w.taken at.each;
+        items_are = ap (items_of all.framing) whole_is ∙ more_items (seen ++ stops.piece) rest ∙ ap (λ (x : List Found). x ++ tail) (more_items seen stops.piece)
+            ∙ ap (λ (x : List Found). (items_of all.framing seen ++ x) ++ tail) at.items_are ∙ append_assoc (items_of all.framing seen) (at.before ++ at.item ∷ at.behind) tail
+            ∙ ap (λ (x : List Found). items_of all.framing seen ++ x) (append_assoc at.before (at.item ∷ at.behind) tail) ∙ sym (append_assoc (items_of all.framing seen) at.before (at.item ∷ (at.behind ++ tail)));
+        taken = taken_append all (items_of all.framing seen) at.before (steps_of stops.turns) at.steps first.moment stops.mid.moment at.mid w.taken at.each;
       }
 
   fewer : (bytes : List ℕ) (at seqno : ℕ) (heading text : List ℕ) (mid : IngestMoment) → (b : Before bytes (Bulletin at seqno heading text) mid)
-      → length (products_of all b.items b.steps) < length (reports_of (items_of bytes))
+      → length (products_of all b.items b.steps) < length (reports_of (items_of all.framing bytes))
   fewer bytes at seqno heading text mid b =
       let p = projected all b.items b.steps first.moment mid b.taken in
       let count = ap (λ (i : List Found). length (reports_of i)) b.items_are in
@@ -128,31 +146,31 @@ module _ (all : Ingesting) (came left : LinkRecord) (old new : Outside) (given :
       let parts = length-append (reports_of b.items) (reports_of (Bulletin at seqno heading text ∷ b.behind)) in
       omega (arith, p.count, count, joined, parts)
 
-  denied_put : (bytes stream : List ℕ) (owed : List PutAnswer) (at seqno : ℕ) (heading text : List ℕ) (mid : IngestMoment) → IsServed bytes stream owed came old
+  denied_put : (bytes stream : List ℕ) (owed : List PutAnswer) (at seqno : ℕ) (heading text : List ℕ) (mid : IngestMoment) → IsServed all.framing bytes stream owed came old
       → (b : Before bytes (Bulletin at seqno heading text) mid)
       → BreaksPut put_fault.Denied (product_of all (record { seqno = seqno; heading = heading; bytes = text })) came mid last.moment
-      → Err (fault.Put put_fault.Denied) ≡ ending_owed bytes owed
+      → Err (fault.Put put_fault.Denied) ≡ ending_owed all.framing bytes owed
   denied_put bytes stream owed at seqno heading text mid served b breaks =
       let p = projected all b.items b.steps first.moment mid b.taken in
-      let is = told_denied (reports_of (items_of bytes)) stream owed (products_of all b.items b.steps) (answers_of b.steps)
+      let is = told_denied (reports_of (items_of all.framing bytes)) stream owed (products_of all b.items b.steps) (answers_of b.steps)
       (product_of all (record { seqno = seqno; heading = heading; bytes = text }) breaks.arrival) first.moment.wire mid.wire last.moment.wire (refl, refl) served.link served.says served.owed
       (fewer bytes at seqno heading text mid b) p.told breaks.breaks in
-      let ends : Result Outcome IngestFault = Ok (then_of (owed_of (items_of bytes) owed) (cut_outcome (cut_at_end bytes))) in
+      let ends : Result Outcome IngestFault = Ok (then_of (owed_of (items_of all.framing bytes) owed) (cut_outcome (cut_at_end all.framing bytes))) in
       let denial : Result Outcome IngestFault = Err (fault.Put put_fault.Denied) in
       ap (λ (x : Bool). cond x denial ends) (sym is)
 
-  unanswered_put : (why : NoReply) (bytes stream : List ℕ) (owed : List PutAnswer) (at seqno : ℕ) (heading text : List ℕ) (mid : IngestMoment) → IsServed bytes stream owed came old
+  unanswered_put : (why : NoReply) (bytes stream : List ℕ) (owed : List PutAnswer) (at seqno : ℕ) (heading text : List ℕ) (mid : IngestMoment) → IsServed all.framing bytes stream owed came old
       → ¬ Rose came.faults left.faults → (b : Before bytes (Bulletin at seqno heading text) mid)
       → BreaksPut (put_fault.NoAnswer why) (product_of all (record { seqno = seqno; heading = heading; bytes = text })) came mid last.moment → why ≡ no_reply.OutOfMemory
   unanswered_put why bytes stream owed at seqno heading text mid served quiet b breaks =
       let p = projected all b.items b.steps first.moment mid b.taken in
-      told_no_answer why (reports_of (items_of bytes)) stream owed (products_of all b.items b.steps) (answers_of b.steps)
+      told_no_answer why (reports_of (items_of all.framing bytes)) stream owed (products_of all b.items b.steps) (answers_of b.steps)
       (product_of all (record { seqno = seqno; heading = heading; bytes = text }) breaks.arrival) first.moment.wire mid.wire last.moment.wire (refl, refl) served.link served.says served.owed
       (fewer bytes at seqno heading text mid b) p.told breaks.breaks served.short_stream quiet
 
-  put_ends : (why : PutFault) (item : Found) (bytes stream : List ℕ) (owed : List PutAnswer) (mid : IngestMoment) → IsServed bytes stream owed came old → NoneRose old new
+  put_ends : (why : PutFault) (item : Found) (bytes stream : List ℕ) (owed : List PutAnswer) (mid : IngestMoment) → IsServed all.framing bytes stream owed came old → NoneRose old new
       → ¬ Rose came.faults left.faults → KeepsMoment first.moment mid → Before bytes item mid → Breaks (fault.Put why) all item came mid last.moment
-      → (Err (fault.Put why) ≡ ending_owed bytes owed) ⊎ IsNoMemory (Err (fault.Put why))
+      → (Err (fault.Put why) ≡ ending_owed all.framing bytes owed) ⊎ IsNoMemory (Err (fault.Put why))
   put_ends why (Bad at) bytes stream owed mid served none quiet kept b breaks = absurd breaks
   put_ends put_fault.Denied (Bulletin at seqno heading text) bytes stream owed mid served none quiet kept b breaks =
       inl (denied_put bytes stream owed at seqno heading text mid served b breaks)
@@ -183,7 +201,7 @@ module _ (all : Ingesting) (came left : LinkRecord) (old new : Outside) (given :
       omega (arith, ap length f.2, length-append (bytes_of most.turns) f.0, most.most, short)
 
   pub completes : (ending : Result Outcome IngestFault) → Runs ending all first last → (Rose came.faults left.faults → Rose old.net.links.failed new.net.links.failed)
-      → Completes ending came old new
+      → Completes ending all.framing came old new
   completes (Ok met) runs failed = taken_all met runs
   completes (Err fault.OutOfMemory) runs failed = λ bytes stream owed served none. inr (inl refl)
   completes (Err fault.SourceFault) runs failed = λ bytes stream owed served none. absurd (none.source (source_rose runs))

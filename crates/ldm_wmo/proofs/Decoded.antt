@@ -1,20 +1,21 @@
 -- What is read as a bulletin is spelled as one.
-use Rattle.std.proofs.Common.{◌≡◌, ℕ, suc, ◌+◌, ◌-◌, ◌<◌, ◌≤◌, ◌==◌, ◌&&◌, ◌||◌, Bool, true, false, not, List, [], ◌∷◌, ◌++◌, length, take, drop, Option, Some, None, refl, sym, ap, subst, ◌∙◌, arith, inl, inr}
+use Rattle.std.proofs.Common.{◌≡◌, ℕ, suc, ◌-◌, ◌<◌, ◌≤◌, ◌&&◌, ◌||◌, Bool, true, false, List, [], ◌∷◌, ◌++◌, length, take, drop, Option, Some, None, refl, sym, ap, ◌∙◌, arith, inl, inr}
 use Rattle.std.specs.Prelude.{nat_eq, nat_le, if◌then◌else◌}
 use Rattle.std.specs.List.{list_all, prefix_len}
 use Rattle.std.specs.Option.{option_and_then}
 use Rattle.std.specs.Str.{bytes_eq}
-use Rattle.std.proofs.lemmas.Bool.{both_ways, cases_Bool, eqb-true, leb-true}
+use Rattle.std.proofs.lemmas.Bool.{cases_Bool, eqb-true, leb-true}
 use Rattle.std.proofs.lemmas.List.{length-take-le, take-append-drop}
 use Rattle.std.proofs.lemmas.List.Sums.{prefix_len-le-length}
 use Rattle.ldm_text.specs.Blanks.{is_blank}
+use Rattle.ldm_wmo.specs.declared.kind.Kind.{Kind}
 use Rattle.ldm_wmo.specs.Headings.{fits, is_digit, is_heading, long_form, short_form}
 use Rattle.ldm_wmo.specs.Lines.{begins_so, behind, end_of_line, heading_in, is_numbered, line_length, line_of, number_in, number_of, rest_of}
-use Rattle.ldm_wmo.specs.Bulletins.{Reading, begun_bulletin, bulletin_of, closing, has_no_mark, is_closed_text, starting, with_number}
-use Rattle.ldm_wmo.specs.Spelling.{AreParts, IsBulletin, Parts, heading_spelling, spelling, text_spelling}
+use Rattle.ldm_wmo.specs.Bulletins.{Reading, begun_bulletin, bulletin_of, closing, is_closed_text, is_text_of, starting, with_number}
+use Rattle.ldm_wmo.specs.Spelling.{IsBulletin, Parts, heading_spelling, text_spelling}
 use Rattle.ldm_wmo.proofs.Spelled.{and_parts}
 
-some_is : {X : Type 0} (x y : X) → Some x ≡ Some y → x ≡ y
+pub some_is : {X : Type 0} (x y : X) → Some x ≡ Some y → x ≡ y
 some_is x y is = cc
 
 -- what a step that gave something stood on
@@ -28,11 +29,11 @@ step_of f None y is = absurd cc
 step_of f (Some x) y is = record { from = x; is = refl; to = is }
 
 -- a test that gave something
-if_some : {X : Type 0} (b : Bool) (x y : X) → (if b then Some x else None) ≡ Some y → (b ≡ true) × (x ≡ y)
+pub if_some : {X : Type 0} (b : Bool) (x y : X) → (if b then Some x else None) ≡ Some y → (b ≡ true) × (x ≡ y)
 if_some true x y is = (refl, some_is x y is)
 if_some false x y is = absurd cc
 
-bytes_are : (xs ys : List ℕ) → bytes_eq xs ys ≡ true → xs ≡ ys
+pub bytes_are : (xs ys : List ℕ) → bytes_eq xs ys ≡ true → xs ≡ ys
 bytes_are [] [] is = refl
 bytes_are [] (y ∷ ys) is = absurd cc
 bytes_are (x ∷ xs) [] is = absurd cc
@@ -125,36 +126,36 @@ has_heading line heading is = elim (cases_Bool (begins_so long_form 22 line)) [
 ]
 
 -- a closed text
-record HasText (bytes : List ℕ) : Type 0 where
+record HasText (kind : Kind) (bytes : List ℕ) : Type 0 where
   text : List ℕ
   bytes_is : bytes ≡ text ++ closing
-  none : has_no_mark text ≡ true
+  none : is_text_of kind text ≡ true
 
-has_text : (bytes : List ℕ) → is_closed_text bytes ≡ true → HasText bytes
+has_text : (kind : Kind) (bytes : List ℕ) → is_closed_text kind bytes ≡ true → HasText kind bytes
 unfolding is_closed_text
-has_text bytes is =
+has_text kind bytes is =
     let count = length bytes - 4 in
-    let parts = and_parts (bytes_eq (drop count bytes) closing) (has_no_mark (take count bytes)) is in
+    let parts = and_parts (bytes_eq (drop count bytes) closing) (is_text_of kind (take count bytes)) is in
     record {
       text = take count bytes;
       bytes_is = sym (take-append-drop count bytes) ∙ ap (λ (x : List ℕ). take count bytes ++ x) (bytes_are (drop count bytes) closing parts.0);
       none = parts.1;
     }
 
-pub bulletin_spelled : (bytes : List ℕ) (seqno : ℕ) (heading : List ℕ) → bulletin_of bytes ≡ Some (record { seqno = seqno; heading = heading }) → IsBulletin bytes seqno heading
+pub bulletin_spelled : (kind : Kind) (bytes : List ℕ) (seqno : ℕ) (heading : List ℕ) → bulletin_of kind bytes ≡ Some (record { seqno = seqno; heading = heading }) → IsBulletin kind bytes seqno heading
 unfolding bulletin_of
-bulletin_spelled bytes seqno heading is =
+bulletin_spelled kind bytes seqno heading is =
     let read : Reading = record { seqno = seqno; heading = heading } in
-    let a = step_of begun_bulletin (behind starting bytes) read is in
-    let b = step_of (λ rest. option_and_then (λ n. with_number rest n) (number_in (line_of a.from))) (rest_of a.from) read a.to in
-    let c = step_of (λ n. with_number b.from n) (number_in (line_of a.from)) read b.to in
-    let d = step_of (λ rest. option_and_then (λ h. if is_closed_text rest then Some (record { seqno = c.from; heading = h }) else None) (heading_in (line_of b.from))) (rest_of b.from) read c.to in
-    let e = step_of (λ h. if is_closed_text d.from then Some (record { seqno = c.from; heading = h }) else None) (heading_in (line_of b.from)) read d.to in
+    let a = step_of (begun_bulletin kind) (behind starting bytes) read is in
+    let b = step_of (λ rest. option_and_then (λ n. with_number kind rest n) (number_in (line_of a.from))) (rest_of a.from) read a.to in
+    let c = step_of (λ n. with_number kind b.from n) (number_in (line_of a.from)) read b.to in
+    let d = step_of (λ rest. option_and_then (λ h. if is_closed_text kind rest then Some (record { seqno = c.from; heading = h }) else None) (heading_in (line_of b.from))) (rest_of b.from) read c.to in
+    let e = step_of (λ h. if is_closed_text kind d.from then Some (record { seqno = c.from; heading = h }) else None) (heading_in (line_of b.from)) read d.to in
     let made : Reading = record { seqno = c.from; heading = e.from } in
-    let f = if_some (is_closed_text d.from) made read e.to in
+    let f = if_some (is_closed_text kind d.from) made read e.to in
     let number = has_number (line_of a.from) c.from c.is in
     let there = has_heading (line_of b.from) e.from e.is in
-    let text = has_text d.from f.0 in
+    let text = has_text kind d.from f.0 in
     let p : Parts = record { digits = number.digits; behind_digits = number.blanks; heading = e.from; behind_heading = there.blanks; text = text.text } in
     let body_is : d.from ≡ text_spelling p = text.bytes_is in
     let second_is : b.from ≡ heading_spelling p =

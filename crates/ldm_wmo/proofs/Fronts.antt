@@ -1,24 +1,23 @@
 -- What a push takes of a piece.
-use Rattle.std.proofs.Common.{◌≡◌, ◌≢◌, ℕ, ◌+◌, ◌-◌, ◌^◌, ◌<◌, ◌≤◌, ◌==◌, ◌||◌, ◌&&◌, Bool, true, false, not, List, [], ◌∷◌, ◌++◌, length, get_or, take, drop, refl, sym, ap, subst, ◌∙◌, append_assoc, arith, inl, inr, Option, Some, None}
+use Rattle.std.proofs.Common.{◌≡◌, ◌≢◌, ℕ, ◌+◌, ◌-◌, ◌^◌, ◌<◌, ◌≤◌, ◌==◌, ◌||◌, true, not, List, [], ◌∷◌, ◌++◌, length, get_or, take, drop, refl, sym, ap, subst, ◌∙◌, append_assoc, arith, inl, inr, Some, None}
 use Rattle.std.proofs.lemmas.Bool.{both_ways, cases_Bool, eq-eqb, eqb-true, ne_eqb}
-use Rattle.std.proofs.lemmas.List.{append-nil, length-append, length-take-le, length-drop, take-append-drop, take_all, take_more, drop_more, drop_all, drop-drop}
-use Rattle.std.specs.List.{list_all}
+use Rattle.std.proofs.lemmas.List.{length-append, length-take-le, length-drop, take-append-drop, take_all, take_more, drop_more, drop_all, drop-drop}
 use Rattle.memchr.specs.Find.{IsFirstByte, is_byte}
 use Rattle.ldm_wmo.specs.declared.stage.Stage.{Stage}
 use Rattle.ldm_wmo.specs.declared.stage.Stage.TheVariants.{Outside, Within, Complete}
 use Rattle.ldm_wmo.specs.declared.stage.TheConstants.{LARGEST_BULLETIN}
-use Rattle.ldm_wmo.specs.Bulletins.{has_no_mark, is_mark}
+use Rattle.ldm_wmo.specs.Bulletins.{has_no_mark}
 use Rattle.ldm_wmo.specs.Courses.{GoesTo}
-use Rattle.ldm_wmo.specs.Scanning.{Scanning, after, after_byte, bytes_taken, is_complete, is_outside, place}
+use Rattle.ldm_wmo.specs.Scanning.{Scanning, after, bytes_taken, is_complete, place}
 use Rattle.ldm_wmo.specs.Taking.{TakesFront, advanced}
 use Rattle.ldm_wmo.proofs.Marks.{none_before, none_at_all}
-use Rattle.ldm_wmo.proofs.Runs.{Goes, after_complete, at_stage, begins_one, ends_before, ends_with, goes_none, goes_on, has_no_1, passes_run, taken_complete, within_run}
+use Rattle.ldm_wmo.proofs.Runs.{Goes, after_complete, at_stage, begins_one, ends_before, ends_with, goes_none, goes_on, passes_run, taken_complete, within_run}
 
 pub takes_none : (s : Scanning) (piece : List ℕ) → TakesFront s piece 0 s
 takes_none s piece = record { within = omega arith; rest = refl; count = omega arith }
 
 -- a run that is the front of a piece
-takes_run : (s t : Scanning) (piece : List ℕ) (n : ℕ) → n ≤ length piece → Goes s (take n piece) t (drop n piece) → TakesFront s piece n t
+pub takes_run : (s t : Scanning) (piece : List ℕ) (n : ℕ) → n ≤ length piece → Goes s (take n piece) t (drop n piece) → TakesFront s piece n t
 takes_run s t piece n within goes =
     let parts = take-append-drop n piece in
     let len = length-take-le n piece within in
@@ -41,7 +40,7 @@ takes_two s t u piece n m first second =
     }
 
 -- one byte of what is left
-takes_one : (s t : Scanning) (piece : List ℕ) (n : ℕ) → n < length piece → Goes s (get_or piece n 0 ∷ []) t (drop (n + 1) piece) → TakesFront s (drop n piece) 1 t
+pub takes_one : (s t : Scanning) (piece : List ℕ) (n : ℕ) → n < length piece → Goes s (get_or piece n 0 ∷ []) t (drop (n + 1) piece) → TakesFront s (drop n piece) 1 t
 takes_one s t piece n within goes =
     let parts : drop n piece ≡ get_or piece n 0 ∷ drop (n + 1) piece = drop_more piece n 0 within in
     let len : length (drop n piece) ≡ length piece - n = length-drop n piece in

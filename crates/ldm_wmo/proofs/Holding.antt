@@ -1,12 +1,10 @@
 -- What a stream holds, by the relation and by the computation.
-use Rattle.std.proofs.Common.{◌≡◌, ◌≢◌, ℕ, suc, ◌+◌, ◌<◌, ◌≤◌, ◌==◌, ◌||◌, Bool, true, false, not, List, [], ◌∷◌, ◌++◌, length, Option, Some, None, refl, sym, ap, subst, ◌∙◌, append_assoc, arith, inl, inr}
-use Rattle.std.specs.List.{list_all}
+use Rattle.std.proofs.Common.{◌≡◌, ◌≢◌, ℕ, ◌+◌, ◌<◌, ◌==◌, ◌||◌, Bool, true, false, List, [], ◌∷◌, ◌++◌, length, Option, Some, refl, sym, ap, subst, ◌∙◌, append_assoc, arith, inl, inr}
 use Rattle.std.proofs.lemmas.Bool.{cases_Bool, cases_eq, eqb-false, eqb-true, ne_eqb}
 use Rattle.std.proofs.lemmas.List.{append-nil, length-append}
-use Rattle.std.proofs.lemmas.List.Folds.{list_all-append}
-use Rattle.ldm_wmo.specs.declared.stage.Stage.TheVariants.{Outside, Within, Complete}
+use Rattle.ldm_wmo.specs.declared.stage.Stage.TheVariants.{Within, Complete}
 use Rattle.ldm_wmo.specs.declared.stage.TheConstants.{LARGEST_BULLETIN}
-use Rattle.ldm_wmo.specs.Bulletins.{has_no_mark, is_mark}
+use Rattle.ldm_wmo.specs.Bulletins.{is_mark}
 use Rattle.ldm_wmo.specs.Items.{Found, found_at}
 use Rattle.ldm_wmo.specs.Scanning.{Scanning, after_byte, cut_of, next_of, outside, place, takes}
 use Rattle.ldm_wmo.specs.Spelling.{Ends, before_next, with_3, with_last, Holds, ended, passed_over, found, cut_off, IsOpen}
@@ -112,7 +110,7 @@ next_after : (p : ℕ) (c : List ℕ) (a byte : ℕ) → byte ≡ 1 → after_by
 unfolding after_byte
 next_after p c a byte is = rw is refl
 
-next_passed : (p : ℕ) (c : List ℕ) (a byte : ℕ) → byte ≡ 1 → passed (at_stage p c (Within a)) byte ≡ at_stage (place (p + 1)) (1 ∷ []) (Within p)
+pub next_passed : (p : ℕ) (c : List ℕ) (a byte : ℕ) → byte ≡ 1 → passed (at_stage p c (Within a)) byte ≡ at_stage (place (p + 1)) (1 ∷ []) (Within p)
 next_passed p c a byte is =
     let left : takes (at_stage p c (Within a)) byte ≡ false = rw is refl in
     let ended_is : next_of (after_byte (at_stage p c (Within a)) byte) ≡ outside p = ap next_of (next_after p c a byte is) in

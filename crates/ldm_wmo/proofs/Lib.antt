@@ -15,6 +15,9 @@ mod Once
 mod Sound
 mod Held
 mod Named
+mod Lost
+mod Framed
+mod Frames
 mod Completed
 mod Whole
 mod Stream

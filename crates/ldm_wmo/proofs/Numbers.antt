@@ -1,5 +1,5 @@
 -- The number that digits spell.
-use Rattle.std.proofs.Common.{◌≡◌, ℕ, zero, suc, ◌+◌, ◌-◌, ◌*◌, ◌^◌, ◌<◌, ◌≤◌, List, [], ◌∷◌, length, get_or, take, drop, Option, Some, None, true, false, refl, sym, arith, add-one}
+use Rattle.std.proofs.Common.{◌≡◌, ℕ, zero, suc, ◌+◌, ◌-◌, ◌*◌, ◌^◌, ◌<◌, ◌≤◌, List, length, get_or, take, drop, Some, None, true, false, refl, sym, arith, add-one}
 use Rattle.std.specs.List.{prefix_len}
 use Rattle.ldm_wmo.specs.Headings.{is_digit}
 use Rattle.std.proofs.Math.Nat.{pow-suc}
@@ -19,13 +19,16 @@ number_end value digits i ends = rw (drop_all i digits ends) refl
 pub bound_more : (value digit i : ℕ) → value + 23 ≤ 23 * 10 ^ i → digit < 256 → value * 10 + (digit - 48) + 23 ≤ 23 * 10 ^ (i + 1)
 bound_more value digit i bound fits = rw (add-one i, pow-suc 10 i) (omega arith)
 
-pub bound_of : (value i : ℕ) → i < 5 → value + 23 ≤ 23 * 10 ^ i → value ≤ 1000000
+pub bound_of : (value i : ℕ) → i < 8 → value + 23 ≤ 23 * 10 ^ i → value ≤ 300000000
 bound_of value zero lt bound = omega arith
 bound_of value (suc zero) lt bound = omega arith
 bound_of value (suc (suc zero)) lt bound = omega arith
 bound_of value (suc (suc (suc zero))) lt bound = omega arith
 bound_of value (suc (suc (suc (suc zero)))) lt bound = omega arith
-bound_of value (suc (suc (suc (suc (suc i))))) lt bound = absurd (omega arith)
+bound_of value (suc (suc (suc (suc (suc zero))))) lt bound = omega arith
+bound_of value (suc (suc (suc (suc (suc (suc zero)))))) lt bound = omega arith
+bound_of value (suc (suc (suc (suc (suc (suc (suc zero))))))) lt bound = omega arith
+bound_of value (suc (suc (suc (suc (suc (suc (suc (suc i)))))))) lt bound = absurd (omega arith)
 
 pub no_number : (line : List ℕ) (count : ℕ) → count ≡ prefix_len is_digit line → is_numbered count line ≡ false → None ≡ number_in line
 unfolding number_in

@@ -1,13 +1,15 @@
 -- Runs of bytes are the bytes that they are, one after another.
-use Rattle.std.proofs.Common.{◌≡◌, ◌≢◌, ℕ, ◌+◌, ◌-◌, ◌^◌, ◌<◌, ◌≤◌, ◌==◌, ◌||◌, ◌&&◌, Bool, true, false, not, List, [], ◌∷◌, ◌++◌, length, get_or, take, drop, refl, sym, ap, subst, ◌∙◌, append_assoc, arith, inl, inr}
-use Rattle.std.proofs.lemmas.Bool.{ne_eqb, cases_Bool, both_ways}
+use Rattle.std.proofs.Common.{◌≡◌, ℕ, ◌+◌, ◌^◌, ◌<◌, ◌==◌, ◌||◌, ◌&&◌, Bool, true, false, not, List, [], ◌∷◌, ◌++◌, length, refl, ap, subst, ◌∙◌, append_assoc, arith}
+use Rattle.std.proofs.lemmas.Bool.{ne_eqb}
 use Rattle.std.proofs.lemmas.List.{append-nil, length-append}
 use Rattle.std.specs.List.{list_all}
+use Rattle.ldm_wmo.specs.declared.stage.FrameStage.{FrameStage}
+use Rattle.ldm_wmo.specs.declared.stage.FrameStage.TheVariants.{Between, Head, Body, Whole, Unread, Lost}
 use Rattle.ldm_wmo.specs.declared.stage.Stage.{Stage}
-use Rattle.ldm_wmo.specs.declared.stage.Stage.TheVariants.{Outside, Within, Complete}
+use Rattle.ldm_wmo.specs.declared.stage.Stage.TheVariants.{Outside, Within, Complete, Framed}
 use Rattle.ldm_wmo.specs.declared.stage.TheConstants.{LARGEST_BULLETIN}
 use Rattle.ldm_wmo.specs.Bulletins.{has_no_mark, is_mark}
-use Rattle.ldm_wmo.specs.Scanning.{Scanning, after, after_byte, after_byte_in, bytes_taken, is_complete, is_complete_in, place, takes, takes_in}
+use Rattle.ldm_wmo.specs.Scanning.{Scanning, after, after_byte, after_byte_in, after_framed, bytes_taken, is_complete, is_complete_in, is_framed, place, takes, takes_in}
 
 abbrev pub at_stage : ℕ → List ℕ → Stage → Scanning
 at_stage p c stage = record { place = p; candidate = c; stage = stage }
@@ -92,11 +94,20 @@ within_run p c a (byte ∷ run) rest small none room =
     (subst (λ (x : List ℕ). Goes (at_stage (place (p + 1)) behind (Within a)) run (at_stage (place (p + length (byte ∷ run))) x (Within a)) rest) joined
     (subst (λ k. Goes (at_stage (place (p + 1)) behind (Within a)) run (at_stage k (behind ++ run) (Within a)) rest) same more))
 
+framed_byte : (stage : FrameStage) (s : Scanning) (byte : ℕ) → is_framed stage ≡ true → after_framed stage s byte ≡ s
+framed_byte Between s byte h = absurd cc
+framed_byte (Head at) s byte h = absurd cc
+framed_byte (Body at left kind) s byte h = absurd cc
+framed_byte (Whole at kind) s byte h = refl
+framed_byte (Unread at) s byte h = refl
+framed_byte Lost s byte h = absurd cc
+
 -- behind its end nothing changes
 complete_byte : (stage : Stage) (s : Scanning) (byte : ℕ) → is_complete_in stage ≡ true → after_byte_in stage s byte ≡ s
 complete_byte Outside s byte h = absurd cc
 complete_byte (Within a) s byte h = absurd cc
 complete_byte (Complete a) s byte h = refl
+complete_byte (Framed stage) s byte h = framed_byte stage s byte h
 
 pub after_complete : (s : Scanning) (bytes : List ℕ) → is_complete s ≡ true → after s bytes ≡ s
 unfolding after after_byte
@@ -107,6 +118,7 @@ complete_takes : (stage : Stage) (byte : ℕ) → is_complete_in stage ≡ true 
 complete_takes Outside byte h = absurd cc
 complete_takes (Within a) byte h = absurd cc
 complete_takes (Complete a) byte h = refl
+complete_takes (Framed stage) byte h = rw h refl
 
 pub taken_complete : (s : Scanning) (bytes : List ℕ) → is_complete s ≡ true → bytes_taken s bytes ≡ 0
 unfolding bytes_taken

@@ -2,6 +2,7 @@
 use Rattle.std.proofs.Common.{◌≡◌, ◌∙◌, ℕ, ◌+◌, true, ◌==◌, List, [], ◌∷◌, ◌++◌, length, drop, sym, ap, arith, append_assoc}
 use Rattle.std.specs.Prelude.{not}
 use Rattle.std.proofs.lemmas.List.{drop_at, length-append}
+use Rattle.ldm_wmo.specs.declared.kind.Kind.{Kind}
 use Rattle.ldm_wmo.specs.Bulletins.{starting}
 use Rattle.ldm_wmo.specs.Lines.{end_of_line, line_length}
 use Rattle.ldm_wmo.specs.Spelling.{IsBulletin, heading_spelling}
@@ -23,8 +24,8 @@ behind_line line rest none =
     let size : length front ≡ 7 + length line = omega (arith, length-append starting (line ++ end_of_line), length-append line end_of_line) in
     ap (λ (n : ℕ). drop n all) count ∙ ap (λ (x : List ℕ). drop (7 + length line) x) split ∙ drop_at front rest (7 + length line) size
 
-pub signed : (bytes : List ℕ) (seqno : ℕ) (heading : List ℕ) (is : IsBulletin bytes seqno heading) → from_heading bytes ≡ heading_spelling is.parts
-signed bytes seqno heading is =
+pub signed : (kind : Kind) (bytes : List ℕ) (seqno : ℕ) (heading : List ℕ) (is : IsBulletin kind bytes seqno heading) → from_heading bytes ≡ heading_spelling is.parts
+signed kind bytes seqno heading is =
     let p = is.parts in
     let none = both_without p.digits p.behind_digits (digits_without 13 return_is p.digits is.are.digits) (blanks_without 13 return_is p.behind_digits is.are.behind_digits) in
     ap from_heading is.bytes_are ∙ behind_line (p.digits ++ p.behind_digits) (heading_spelling p) none

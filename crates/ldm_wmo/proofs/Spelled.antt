@@ -1,5 +1,5 @@
 -- What is spelled as a bulletin is read as one.
-use Rattle.std.proofs.Common.{◌≡◌, ℕ, suc, ◌+◌, ◌-◌, ◌<◌, ◌≤◌, ◌==◌, ◌||◌, ◌&&◌, Bool, true, false, not, List, [], ◌∷◌, ◌++◌, length, take, drop, Option, Some, None, refl, sym, ap, subst, ◌∙◌, zero-add, arith, inl, inr}
+use Rattle.std.proofs.Common.{◌≡◌, ℕ, suc, ◌+◌, ◌-◌, ◌==◌, ◌||◌, ◌&&◌, Bool, true, false, not, List, [], ◌∷◌, ◌++◌, length, take, drop, Some, refl, sym, ap, ◌∙◌, zero-add, arith, inl, inr}
 use Rattle.std.specs.Prelude.{nat_le}
 use Rattle.std.specs.List.{list_all, prefix_len}
 use Rattle.std.proofs.lemmas.Bool.{both_ways, cases_Bool, cases_eq, eqb-true, le-leb, ne_eqb}
@@ -7,8 +7,9 @@ use Rattle.std.proofs.lemmas.List.{drop_at, length-append, take_at}
 use Rattle.std.proofs.lemmas.List.Folds.{list_all-append}
 use Rattle.ldm_text.specs.Blanks.{is_blank}
 use Rattle.ldm_wmo.specs.Headings.{fits, is_digit, is_heading, is_letter, long_form, short_form, stands_for}
-use Rattle.ldm_wmo.specs.Lines.{begins_so, behind, end_of_line, heading_in, is_numbered, line_length, line_of, number_in, number_of, rest_of}
-use Rattle.ldm_wmo.specs.Bulletins.{Reading, bulletin_of, closing, has_no_mark, is_closed_text, is_mark, starting}
+use Rattle.ldm_wmo.specs.Lines.{behind, end_of_line, heading_in, line_length, line_of, number_in, number_of, rest_of}
+use Rattle.ldm_wmo.specs.Bulletins.{bulletin_of, closing, is_closed_text, is_text_of}
+use Rattle.ldm_wmo.specs.declared.kind.Kind.{Kind}
 use Rattle.ldm_wmo.specs.Spelling.{AreParts, IsBulletin, Parts, heading_spelling, spelling, text_spelling}
 use Rattle.ldm_wmo.proofs.BulletinLemmas.{begun, closed, numbered}
 use Rattle.ldm_wmo.proofs.WriteLemmas.{fits_length}
@@ -142,9 +143,9 @@ prefix_is (d ∷ digits) blanks are none =
     let parts = and_parts (is_digit d) (list_all is_digit digits) are in
     rw parts.0 (ap (λ n. 1 + n) (prefix_is digits blanks parts.1 none) ∙ omega arith)
 
-pub number_is : (p : Parts) → AreParts p → Some (number_of p.digits) ≡ number_in (p.digits ++ p.behind_digits)
+pub number_is : (kind : Kind) (p : Parts) → AreParts kind p → Some (number_of p.digits) ≡ number_in (p.digits ++ p.behind_digits)
 unfolding number_in
-number_is p are =
+number_is kind p are =
     let line = p.digits ++ p.behind_digits in
     let count = prefix_is p.digits p.behind_digits are.digits are.behind_digits in
     let front : take (length p.digits) line ≡ p.digits = take_at p.digits p.behind_digits (length p.digits) refl in
@@ -205,9 +206,9 @@ heading_line_is heading blanks is are = elim (cases_Bool (fits short_form headin
 
 -- ---- the text
 
-pub text_closed : (text : List ℕ) → has_no_mark text ≡ true → is_closed_text (text ++ closing) ≡ true
+pub text_closed : (kind : Kind) (text : List ℕ) → is_text_of kind text ≡ true → is_closed_text kind (text ++ closing) ≡ true
 unfolding is_closed_text
-text_closed text none =
+text_closed kind text none =
     let len : length (text ++ closing) - 4 ≡ length text = (let all = length-append text closing in omega arith) in
     let front : take (length text) (text ++ closing) ≡ text = take_at text closing (length text) refl in
     let back : drop (length text) (text ++ closing) ≡ closing = drop_at text closing (length text) refl in
@@ -215,18 +216,18 @@ text_closed text none =
 
 -- ---- all of it
 
-pub spelled : (p : Parts) → AreParts p → bulletin_of (spelling p) ≡ Some (record { seqno = number_of p.digits; heading = p.heading })
-spelled p are =
+pub spelled : (kind : Kind) (p : Parts) → AreParts kind p → bulletin_of kind (spelling p) ≡ Some (record { seqno = number_of p.digits; heading = p.heading })
+spelled kind p are =
     let first = p.digits ++ p.behind_digits in
     let second = p.heading ++ p.behind_heading in
     let first_none = line_without p.digits p.behind_digits (digits_without 13 return_is p.digits are.digits) (blanks_without 13 return_is p.behind_digits are.behind_digits) in
     let second_none = line_without p.heading p.behind_heading (heading_without 13 return_is p.heading are.heading) (blanks_without 13 return_is p.behind_heading are.behind_heading) in
     let rest = first ++ (end_of_line ++ heading_spelling p) in
-    begun (spelling p) rest refl
-    ∙ numbered rest first (heading_spelling p) (number_of p.digits) (rest_is first (heading_spelling p) first_none) (line_is first (heading_spelling p) first_none) (number_is p are)
-    ∙ closed (heading_spelling p) second (text_spelling p) p.heading (number_of p.digits) (rest_is second (text_spelling p) second_none) (line_is second (text_spelling p) second_none)
-    (heading_line_is p.heading p.behind_heading are.heading are.behind_heading) (text_closed p.text are.text)
+    begun kind (spelling p) rest refl
+    ∙ numbered kind rest first (heading_spelling p) (number_of p.digits) (rest_is first (heading_spelling p) first_none) (line_is first (heading_spelling p) first_none) (number_is kind p are)
+    ∙ closed kind (heading_spelling p) second (text_spelling p) p.heading (number_of p.digits) (rest_is second (text_spelling p) second_none) (line_is second (text_spelling p) second_none)
+    (heading_line_is p.heading p.behind_heading are.heading are.behind_heading) (text_closed kind p.text are.text)
 
-pub bulletin_read : (bytes : List ℕ) (seqno : ℕ) (heading : List ℕ) → IsBulletin bytes seqno heading → bulletin_of bytes ≡ Some (record { seqno = seqno; heading = heading })
-bulletin_read bytes seqno heading is =
-    ap bulletin_of is.bytes_are ∙ spelled is.parts is.are ∙ rw (is.seqno_is, is.heading_is) refl
+pub bulletin_read : (kind : Kind) (bytes : List ℕ) (seqno : ℕ) (heading : List ℕ) → IsBulletin kind bytes seqno heading → bulletin_of kind bytes ≡ Some (record { seqno = seqno; heading = heading })
+bulletin_read kind bytes seqno heading is =
+    ap (bulletin_of kind) is.bytes_are ∙ spelled kind is.parts is.are ∙ rw (is.seqno_is, is.heading_is) refl

@@ -1,5 +1,5 @@
 -- A stream that is taken piece by piece.
-use Rattle.std.proofs.Common.{◌≡◌, ◌∙◌, ℕ, ◌+◌, ◌<◌, List, [], ◌∷◌, ◌++◌, length, Option, Some, None, inl, inr, refl, sym, ap, subst, append_assoc, arith}
+use Rattle.std.proofs.Common.{◌≡◌, ◌∙◌, ℕ, ◌+◌, ◌<◌, true, List, [], ◌∷◌, ◌++◌, length, Option, Some, None, inl, inr, refl, sym, ap, subst, append_assoc, arith}
 use Rattle.std.specs.Prelude.{Result, Ok, Err}
 use Rattle.std.proofs.lemmas.List.{append-nil, length-append}
 use Rattle.ldm_outside.specs.Io.{Gives, SinkRecord}
@@ -8,7 +8,7 @@ use Rattle.ldm_session.specs.declared.limits.TheConstants.{LONGEST_STREAM}
 use Rattle.ldm_status.specs.Streams.{AtEnd}
 use Rattle.ldm_tools.specs.declared.puts.Puts.{Puts}
 use Rattle.ldm_tools.specs.Puts.{HasPut}
-use Rattle.ldm_wmo.specs.Scanning.{Scanning, begun, cut_of}
+use Rattle.ldm_wmo.specs.Scanning.{Scanning, begun, cut_of, is_lost}
 use Rattle.ldm_wmo.specs.Streams.{in_hand, items_in}
 use Rattle.ldm_wmo.proofs.Joined.{in_hand-append}
 use Rattle.ldm_wmo.specs.declared.ingest_fault.IngestFault.{IngestFault}
@@ -21,7 +21,8 @@ use Rattle.ldm_wmo.specs.Outcomes.{Step, cut_outcome, first_of, then_of}
 use Rattle.ldm_wmo.specs.Parts.{Hands, KeepsOver, Over, RunsFrom, TakesSome, TellsCut, finished, span_over}
 use Rattle.ldm_wmo.specs.Runs.{AreTurns, IsTurn, LogsCut, Runs, SourceFails, StopsAt, Takes, Turn, bytes_of, steps_of}
 use Rattle.ldm_wmo.specs.IngestTaking.{AreTaken, BreaksAt}
-use Rattle.ldm_wmo.proofs.Taken.{breaks_from, first_append}
+use Rattle.ldm_wmo.proofs.Lost.{lost_cut, over_end, over_lost}
+use Rattle.ldm_wmo.proofs.Taken.{breaks_from, first_append, then_clean}
 
 pub over_same : (over : Over) → KeepsOver over over
 over_same over = record { source = omega arith; ends = omega arith; faults = omega arith; sink = omega arith; log = omega arith }
@@ -64,11 +65,11 @@ module _ (all : Ingesting) where
     pub turns : List Turn
     pub each : AreTurns all [] turns (span_over old [] []) (span_over new given answers)
     pub has : HasPut given answers puts
-    pub hand : scanner ≡ in_hand begun (bytes_of turns)
+    pub hand : scanner ≡ in_hand (begun all.framing) (bytes_of turns)
     pub met_is : met ≡ first_of (steps_of turns)
     pub came_is : came ≡ length (bytes_of turns)
 
-  pub goes_first : (scanner : Scanning) (puts : Puts) (over : Over) → HasPut [] [] puts → scanner ≡ begun → Goes outcome.Clean scanner puts 0 over over
+  pub goes_first : (scanner : Scanning) (puts : Puts) (over : Over) → HasPut [] [] puts → scanner ≡ begun all.framing → Goes outcome.Clean scanner puts 0 over over
   unfolding in_hand
   goes_first scanner puts over has is = record { given = []; answers = []; turns = []; each = refl; has = has; hand = is; met_is = refl; came_is = refl }
 
@@ -88,7 +89,7 @@ module _ (all : Ingesting) where
         turns = goes.turns ++ turn ∷ [];
         each = turns_push [] goes.turns turn (span_over old [] []) before there goes.each taken;
         has = t.4;
-        hand = is ∙ ap (λ (s : Scanning). in_hand s piece) goes.hand ∙ sym (in_hand-append begun (bytes_of goes.turns) piece) ∙ ap (in_hand begun) (sym (bytes_push goes.turns turn));
+        hand = is ∙ ap (λ (s : Scanning). in_hand s piece) goes.hand ∙ sym (in_hand-append (begun all.framing) (bytes_of goes.turns) piece) ∙ ap (in_hand (begun all.framing)) (sym (bytes_push goes.turns turn));
         met_is = ap (λ (m : Outcome). then_of m behind) goes.met_is ∙ ap (then_of (first_of (steps_of goes.turns))) t.5 ∙ sym (first_append (steps_of goes.turns) t.0)
             ∙ ap first_of (sym (steps_push goes.turns turn));
         came_is = (let n = goes.came_is in omega (arith, ap length (bytes_push goes.turns turn), length-append (bytes_of goes.turns) piece));
@@ -139,14 +140,14 @@ module _ (all : Ingesting) where
             turns = goes.turns;
             mid = span_over mid goes.given goes.answers;
             takes = so_far;
-            at_end = at_end;
+            at_end = over_end all.framing (bytes_of goes.turns) mid.source new.source at_end;
             left = left;
             cut = subst P goes.hand (cut_logged behind (cut_of scanner) new tells same);
             outcome_is = ap (λ (m : Outcome). then_of m behind) goes.met_is ∙ ap (then_of (first_of (steps_of goes.turns))) cut;
           };
         }
 
-    cut_broken : (why : IngestFault) (cut : Option ℕ) (new : Over) → cut ≡ cut_of (in_hand begun (bytes_of goes.turns)) → TellsCut (Err why) cut mid.log new.log
+    cut_broken : (why : IngestFault) (cut : Option ℕ) (new : Over) → cut ≡ cut_of (in_hand (begun all.framing) (bytes_of goes.turns)) → TellsCut (Err why) cut mid.log new.log
         → AtEnd mid.source new.source → new ≡ record mid { source = new.source; log = new.log } → RunsFrom (Err why) all old new
     cut_broken fault.LogFault None new is tells at_end same = absurd tells
     cut_broken fault.LogFault (Some at) new is tells at_end same = record {
@@ -176,6 +177,27 @@ module _ (all : Ingesting) where
         → new ≡ record mid { source = new.source; log = new.log } → RunsFrom (finished met told) all old new
     end_told (Ok behind) new at_end left tells same = ended behind new at_end left tells same
     end_told (Err why) new at_end left tells same = end_untold why new at_end tells same
+
+    -- no more is read behind a frame that is none
+    pub lost_ended : is_lost scanner ≡ true → RunsFrom (Ok met) all old mid
+    lost_ended lost =
+        let there = in_hand (begun all.framing) (bytes_of goes.turns) in
+        let gone : is_lost there ≡ true = ap is_lost (sym goes.hand) ∙ lost in
+        let none : cut_of there ≡ None = lost_cut there gone in
+        let P : Option ℕ → Type 0 = λ cut. LogsCut cut (span_over mid goes.given goes.answers).moment (span_over mid goes.given goes.answers).moment in
+        record {
+          given = goes.given;
+          answers = goes.answers;
+          runs = record {
+            turns = goes.turns;
+            mid = span_over mid goes.given goes.answers;
+            takes = so_far;
+            at_end = over_lost all.framing (bytes_of goes.turns) mid.source gone;
+            left = refl;
+            cut = subst P (sym none) refl;
+            outcome_is = goes.met_is ∙ sym (then_clean (first_of (steps_of goes.turns))) ∙ ap (λ (cut : Option ℕ). then_of (first_of (steps_of goes.turns)) (cut_outcome cut)) (sym none);
+          };
+        }
 
     -- the run ended at an item of a piece
     broken_at : (why : IngestFault) (piece : List ℕ) (new : Over) (given : List ℕ) (answers : List PutAnswer) → Gives mid.source piece new.source

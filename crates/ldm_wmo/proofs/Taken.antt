@@ -52,7 +52,7 @@ of_hands old new given new_given answers new_answers kept = record { ends = kept
 
 -- ---- what was met first
 
-then_clean : (met : Outcome) → then_of met outcome.Clean ≡ met
+pub then_clean : (met : Outcome) → then_of met outcome.Clean ≡ met
 then_clean outcome.Clean = refl
 then_clean outcome.Bad = refl
 then_clean outcome.Refused = refl

@@ -5,6 +5,7 @@ use Rattle.ldm_outside.specs.Io as io
 use Rattle.ldm_outside.proofs.CallerLemmas.{Gives-nothing, Gives-then, Takes-nothing, Takes-then}
 use Rattle.ldm_tools.specs.Telling.{AreTold, Wire}
 use Rattle.ldm_tools.proofs.Told.{tells}
+use Rattle.ldm_wmo.specs.declared.framing.Framing.{Framing}
 use Rattle.ldm_wmo.specs.Items.{Found, Bulletin, Bad}
 use Rattle.ldm_wmo.specs.Scanning.{Scanning, begun}
 use Rattle.ldm_wmo.specs.Streams.{in_hand, items_in, items_of}
@@ -19,18 +20,19 @@ use Rattle.ldm_wmo.specs.Told.{Told, answers_of, products_of}
 use Rattle.ldm_wmo.proofs.Taken.{taken_append}
 
 -- the items of a piece come behind those of the bytes before it
-pub items_joined : (seen piece : List ℕ) → items_of (seen ++ piece) ≡ items_of seen ++ items_behind seen piece
-items_joined seen piece = items-append begun seen piece
+pub items_joined : (framing : Framing) (seen piece : List ℕ) → items_of framing (seen ++ piece) ≡ items_of framing seen ++ items_behind framing seen piece
+items_joined framing seen piece = items-append (begun framing) seen piece
 
 -- the items of all bytes behind some
-items_all : (seen piece rest : List ℕ) → items_behind seen (piece ++ rest) ≡ items_behind seen piece ++ items_behind (seen ++ piece) rest
-items_all seen piece rest =
-    items-append (in_hand begun seen) piece rest ∙ ap (λ (s : Scanning). items_in (in_hand begun seen) piece ++ items_in s rest) (sym (in_hand-append begun seen piece))
+items_all : (framing : Framing) (seen piece rest : List ℕ) → items_behind framing seen (piece ++ rest) ≡ items_behind framing seen piece ++ items_behind framing (seen ++ piece) rest
+items_all framing seen piece rest =
+    items-append (in_hand (begun framing) seen) piece rest
+    ∙ ap (λ (s : Scanning). items_in (in_hand (begun framing) seen) piece ++ items_in s rest) (sym (in_hand-append (begun framing) seen piece))
 
 module _ (all : Ingesting) where
   pub record Joined (seen : List ℕ) (turns : List Turn) (old new : Span) : Type 0 where
     pub read : Gives old.source (bytes_of turns) new.source
-    pub taken : AreTaken all (items_behind seen (bytes_of turns)) (steps_of turns) old.moment new.moment
+    pub taken : AreTaken all (items_behind all.framing seen (bytes_of turns)) (steps_of turns) old.moment new.moment
 
   none_behind : (s : Scanning) → items_in s [] ≡ []
   unfolding items_in
@@ -39,7 +41,7 @@ module _ (all : Ingesting) where
   pub joined : (seen : List ℕ) (turns : List Turn) (old new : Span) → AreTurns all seen turns old new → Joined seen turns old new
   joined seen [] old new each =
       let P : List Found → Type 0 = λ items. AreTaken all items [] old.moment new.moment in
-      record { read = Gives-nothing old.source new.source (ap (λ (s : Span). s.source.left) each); taken = subst P (sym (none_behind (in_hand begun seen))) (ap (λ (s : Span). s.moment) each) }
+      record { read = Gives-nothing old.source new.source (ap (λ (s : Span). s.source.left) each); taken = subst P (sym (none_behind (in_hand (begun all.framing) seen))) (ap (λ (s : Span). s.moment) each) }
   joined seen (turn ∷ turns) old new each =
       let mid = each.0 in
       let one = each.1 in
@@ -47,17 +49,17 @@ module _ (all : Ingesting) where
       let P : List Found → Type 0 = λ items. AreTaken all items (turn.steps ++ steps_of turns) old.moment new.moment in
       record {
         read = Gives-then old.source mid.source new.source turn.piece (bytes_of turns) one.read rest.read;
-        taken = subst P (sym (items_all seen turn.piece (bytes_of turns)))
-            (taken_append all (items_behind seen turn.piece) (items_behind (seen ++ turn.piece) (bytes_of turns)) turn.steps (steps_of turns) old.moment mid.moment new.moment one.taken rest.taken);
+        taken = subst P (sym (items_all all.framing seen turn.piece (bytes_of turns)))
+            (taken_append all (items_behind all.framing seen turn.piece) (items_behind all.framing (seen ++ turn.piece) (bytes_of turns)) turn.steps (steps_of turns) old.moment mid.moment new.moment one.taken rest.taken);
       }
 
-  from_begin : (bytes : List ℕ) → items_behind [] bytes ≡ items_of bytes
+  from_begin : (bytes : List ℕ) → items_behind all.framing [] bytes ≡ items_of all.framing bytes
   unfolding in_hand
   from_begin bytes = refl
 
   pub record Whole (turns : List Turn) (old new : Span) : Type 0 where
     pub read : Gives old.source (bytes_of turns) new.source
-    pub taken : AreTaken all (items_of (bytes_of turns)) (steps_of turns) old.moment new.moment
+    pub taken : AreTaken all (items_of all.framing (bytes_of turns)) (steps_of turns) old.moment new.moment
 
   pub whole : (turns : List Turn) (old new : Span) → AreTurns all [] turns old new → Whole turns old new
   whole turns old new each =

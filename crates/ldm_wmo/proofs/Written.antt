@@ -1,5 +1,5 @@
 -- A written bulletin is found as itself.
-use Rattle.std.proofs.Common.{◌≡◌, ℕ, ◌+◌, ◌-◌, ◌*◌, ◌/◌, ◌%◌, ◌^◌, ◌<◌, ◌≤◌, ◌==◌, ◌&&◌, ◌||◌, Bool, true, false, not, List, [], ◌∷◌, ◌++◌, length, Option, Some, None, refl, sym, ap, subst, ◌∙◌, append_assoc, arith, inl, inr}
+use Rattle.std.proofs.Common.{◌≡◌, ℕ, ◌+◌, ◌/◌, ◌%◌, ◌^◌, ◌<◌, ◌≤◌, ◌==◌, Bool, true, false, not, List, [], ◌∷◌, ◌++◌, length, Option, Some, None, refl, sym, ap, ◌∙◌, append_assoc, arith, inl, inr}
 use Rattle.std.specs.Prelude.{nat_le, nat_lt, if◌then◌else◌}
 use Rattle.std.specs.List.{list_all}
 use Rattle.std.proofs.lemmas.Bool.{cases_Bool, le-leb, ltb-false, ltb-true}
@@ -11,7 +11,8 @@ use Rattle.ldm_wmo.specs.declared.stage.TheConstants.{LARGEST_BULLETIN}
 use Rattle.ldm_wmo.specs.declared.write.TheConstants.{LARGEST_SEQNO}
 use Rattle.ldm_wmo.specs.Headings.{is_digit, is_heading}
 use Rattle.ldm_wmo.specs.Lines.{end_of_line, number_from, number_of}
-use Rattle.ldm_wmo.specs.Bulletins.{Reading, bulletin_of, has_no_mark, is_mark, starting}
+use Rattle.ldm_wmo.specs.declared.kind.Kind.TheVariants.{Alphanumeric}
+use Rattle.ldm_wmo.specs.Bulletins.{bulletin_of, has_no_mark, is_mark, starting}
 use Rattle.ldm_wmo.specs.Items.{Found, Bulletin, found_as, found_at}
 use Rattle.ldm_wmo.specs.Scanning.{outside, place}
 use Rattle.ldm_wmo.specs.Spelling.{AreParts, heading_spelling, text_spelling}
@@ -151,10 +152,10 @@ body_none digits heading text digits_are_so heading_is text_none =
 
 -- ---- the item
 
-bulletin_is : (seqno : ℕ) (heading text : List ℕ) → IsSound seqno heading text → bulletin_of (written seqno heading text) ≡ Some (record { seqno = seqno; heading = heading })
+bulletin_is : (seqno : ℕ) (heading text : List ℕ) → IsSound seqno heading text → bulletin_of Alphanumeric (written seqno heading text) ≡ Some (record { seqno = seqno; heading = heading })
 bulletin_is seqno heading text is =
     let digits = digits_are seqno is.small in
-    let are : AreParts (parts_of (digits_of seqno) heading text) = record {
+    let are : AreParts Alphanumeric (parts_of (digits_of seqno) heading text) = record {
       some_digit = digits.some;
       few_digits = digits.few;
       digits = digits.are;
@@ -163,7 +164,7 @@ bulletin_is seqno heading text is =
       behind_heading = refl;
       text = is.text_is;
     } in
-    spelled (parts_of (digits_of seqno) heading text) are ∙ rw digits.number refl
+    spelled Alphanumeric (parts_of (digits_of seqno) heading text) are ∙ rw digits.number refl
 
 pub written_found : (at seqno : ℕ) (heading text rest : List ℕ) → at < 2 ^ 64 → fault_of seqno heading text ≡ None
     → items_in (outside at) (written seqno heading text ++ rest)

@@ -1,8 +1,10 @@
 -- Which bytes are a bulletin, and what its number and its heading are, as a computation: line by line.
-use Rattle.std.specs.Prelude.{ℕ, ◌-◌, Bool, ◌==◌, ◌||◌, ◌&&◌, not, if◌then◌else◌, List, [], ◌∷◌, ◌++◌, length, take, drop, Option, Some, None}
+use Rattle.std.specs.Prelude.{ℕ, ◌-◌, Bool, true, ◌==◌, ◌||◌, ◌&&◌, not, if◌then◌else◌, List, [], ◌∷◌, ◌++◌, length, take, drop, Option, Some, None}
 use Rattle.std.specs.List.{list_all}
 use Rattle.std.specs.Option.{option_and_then}
 use Rattle.std.specs.Str.{bytes_eq}
+use Rattle.ldm_wmo.specs.declared.kind.Kind.{Kind}
+use Rattle.ldm_wmo.specs.declared.kind.Kind.TheVariants.{Alphanumeric, Binary, Facsimile}
 use Rattle.ldm_wmo.specs.Lines.{behind, end_of_line, heading_in, line_of, number_in, rest_of}
 
 -- 1, and the end of a line
@@ -20,11 +22,17 @@ is_mark byte = byte == 1 || byte == 3
 abbrev pub has_no_mark : List ℕ → Bool
 has_no_mark bytes = list_all (λ byte. not (is_mark byte)) bytes
 
--- a text without marks, and the closing
-unfoldable pub is_closed_text : List ℕ → Bool
-is_closed_text bytes =
+-- an alphanumeric text has no marks; any bytes are the text of a binary bulletin, and of a facsimile
+abbrev pub is_text_of : Kind → List ℕ → Bool
+is_text_of Alphanumeric text = has_no_mark text
+is_text_of Binary text = true
+is_text_of Facsimile text = true
+
+-- a text of that kind, and the closing
+unfoldable pub is_closed_text : Kind → List ℕ → Bool
+is_closed_text kind bytes =
     let count = length bytes - 4 in
-    bytes_eq (drop count bytes) closing && has_no_mark (take count bytes)
+    bytes_eq (drop count bytes) closing && is_text_of kind (take count bytes)
 
 -- what the two lines of a bulletin say
 pub record Reading : Type 0 where
@@ -32,15 +40,15 @@ pub record Reading : Type 0 where
   pub heading : List ℕ
 
 -- behind the number's line
-abbrev pub with_number : List ℕ → ℕ → Option Reading
-with_number bytes seqno =
-    option_and_then (λ rest. option_and_then (λ heading. if is_closed_text rest then Some (record { seqno = seqno; heading = heading }) else None)
+abbrev pub with_number : Kind → List ℕ → ℕ → Option Reading
+with_number kind bytes seqno =
+    option_and_then (λ rest. option_and_then (λ heading. if is_closed_text kind rest then Some (record { seqno = seqno; heading = heading }) else None)
     (heading_in (line_of bytes))) (rest_of bytes)
 
 -- behind the starting
-abbrev pub begun_bulletin : List ℕ → Option Reading
-begun_bulletin bytes = option_and_then (λ rest. option_and_then (λ seqno. with_number rest seqno) (number_in (line_of bytes))) (rest_of bytes)
+abbrev pub begun_bulletin : Kind → List ℕ → Option Reading
+begun_bulletin kind bytes = option_and_then (λ rest. option_and_then (λ seqno. with_number kind rest seqno) (number_in (line_of bytes))) (rest_of bytes)
 
--- the bulletin that these bytes are, if they are one
-unfoldable pub bulletin_of : List ℕ → Option Reading
-bulletin_of bytes = option_and_then begun_bulletin (behind starting bytes)
+-- the bulletin of that kind that these bytes are, if they are one
+unfoldable pub bulletin_of : Kind → List ℕ → Option Reading
+bulletin_of kind bytes = option_and_then (begun_bulletin kind) (behind starting bytes)

@@ -2,6 +2,7 @@
 use Rattle.std.specs.Prelude.{List, [], ◌∷◌, codes}
 use Rattle.ldm_relay.specs.declared.message.PutAnswer.{PutAnswer}
 use Rattle.ldm_relay.specs.declared.message.PutAnswer.TheVariants.{Admitted, Duplicate, Denied}
+use Rattle.ldm_wmo.specs.declared.framing.Framing.TheVariants.{Line}
 use Rattle.ldm_wmo.specs.Items.{Found, Bulletin, Bad}
 use Rattle.ldm_wmo.specs.Samples.{sample, sample_heading}
 use Rattle.ldm_wmo.specs.Ingesting.{Ingesting}
@@ -9,7 +10,7 @@ use Rattle.ldm_wmo.specs.Outcomes.{Step, Put, Logged}
 
 -- for the queue at port 388 of host `a`
 abbrev pub sample_ingesting : Ingesting
-sample_ingesting = record { peer = record { host = codes "a"; port = 388 }; feed = 4; origin = codes "localhost" }
+sample_ingesting = record { framing = Line; peer = record { host = codes "a"; port = 388 }; feed = 4; origin = codes "localhost" }
 
 -- a bulletin, and a candidate that is none
 abbrev pub sample_items : List Found

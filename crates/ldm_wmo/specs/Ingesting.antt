@@ -6,16 +6,19 @@ use Rattle.ldm_outside.specs.Dial.{Asked}
 use Rattle.ldm_tools.specs.Telling.{Product}
 use Rattle.ldm_wmo.specs.Items.{Found, Bulletin, Bad}
 use Rattle.ldm_wmo.specs.Lines.{line_length}
+use Rattle.ldm_wmo.specs.declared.framing.Framing.{Framing}
 use Rattle.ldm_wmo.specs.declared.ingestion.Ingestion.{Ingestion}
 
--- Whom to ask, and the metadata that all products have in common.
+-- How bulletins are framed, whom to ask, and the metadata that all products have in common.
 pub record Ingesting : Type 0 where
+  pub framing : Framing
   pub peer : Asked
   pub feed : ℕ
   pub origin : List ℕ
 
 abbrev pub ingesting : Ingestion → Ingesting
 ingesting ingestion = record {
+  framing = ingestion.framing;
   peer = record { host = ingestion.host.now; port = ingestion.port };
   feed = ingestion.feed.0;
   origin = ingestion.origin.now;

@@ -48,7 +48,7 @@ pub record IngestsOver (ending : Result Outcome IngestFault) (all : Ingesting) (
   pub given : List ℕ
   pub answers : List PutAnswer
   pub runs : Runs ending all (span_of came old [] []) (span_of left new given answers)
-  pub completes : Completes ending came old new
+  pub completes : Completes ending all.framing came old new
 
 -- No link was connected, and nothing else was done.
 pub record IsIdle (all : Ingesting) (old new : Outside) : Type 0 where

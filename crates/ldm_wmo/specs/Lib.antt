@@ -1,9 +1,11 @@
 pub mod Headings
 pub mod Lines
 pub mod Bulletins
+pub mod Frames
 pub mod Items
 pub mod Scanning
 pub mod Streams
+pub mod Messages
 pub mod Spelling
 pub mod Writing
 pub mod ScannerView
@@ -12,6 +14,7 @@ pub mod Taking
 pub mod Stages
 pub mod Courses
 pub mod Samples
+pub mod FrameSamples
 pub mod Ingesting
 pub mod IngestLines
 pub mod Outcomes

@@ -8,6 +8,7 @@ use Rattle.ldm_tools.specs.declared.no_reply.NoReply.TheVariants as no_reply
 use Rattle.ldm_tools.specs.declared.put_fault.PutFault.TheVariants as put_fault
 use Rattle.ldm_tools.specs.Owing.{AreOwed, are_denied}
 use Rattle.ldm_tools.specs.Telling.{HasAnswers}
+use Rattle.ldm_wmo.specs.declared.framing.Framing.{Framing}
 use Rattle.ldm_wmo.specs.Streams.{cut_at_end, items_of}
 use Rattle.ldm_wmo.specs.declared.ingest_fault.IngestFault.{IngestFault}
 use Rattle.ldm_wmo.specs.declared.ingest_fault.IngestFault.TheVariants as fault
@@ -23,10 +24,10 @@ pub record NoneRose (old new : Outside) : Type 0 where
   pub sink : ¬ Rose old.streams.sink.faults new.streams.sink.faults
   pub log : ¬ Rose old.streams.log.faults new.streams.log.faults
 
--- how a run over a stream ends by these answers to its bulletins
-abbrev pub ending_owed : List ℕ → List PutAnswer → Result Outcome IngestFault
-ending_owed bytes answers =
-    let whole = then_of (owed_of (items_of bytes) answers) (cut_outcome (cut_at_end bytes)) in
+-- how a run over a stream of that framing ends by these answers to its bulletins
+abbrev pub ending_owed : Framing → List ℕ → List PutAnswer → Result Outcome IngestFault
+ending_owed framing bytes answers =
+    let whole = then_of (owed_of (items_of framing bytes) answers) (cut_outcome (cut_at_end framing bytes)) in
     cond (are_denied answers) (Err (fault.Put put_fault.Denied)) (Ok whole)
 
 -- there was no memory
@@ -35,16 +36,16 @@ IsNoMemory ending = (ending ≡ Err fault.OutOfMemory) ⊎ (ending ≡ Err (faul
 
 -- These bytes are all that the source has left, and fewer than are taken of a stream; and all that the link has left to give begins with the
 -- replies that are owed to their bulletins.
-pub record IsServed (bytes stream : List ℕ) (answers : List PutAnswer) (came : LinkRecord) (old : Outside) : Type 0 where
+pub record IsServed (framing : Framing) (bytes stream : List ℕ) (answers : List PutAnswer) (came : LinkRecord) (old : Outside) : Type 0 where
   pub source : old.streams.source.left ≡ Some bytes
   pub short : length bytes < LONGEST_STREAM
   pub link : came.left ≡ Some stream
   pub short_stream : length stream < LONGEST_STREAM
   pub says : HasAnswers stream answers
-  pub owed : AreOwed (reports_of (items_of bytes)) answers
+  pub owed : AreOwed (reports_of (items_of framing bytes)) answers
 
 -- Where that holds and no count of faults rose, the run ended as the stream and the answers say, or there was no memory.
-abbrev pub Completes : Result Outcome IngestFault → LinkRecord → Outside → Outside → Type 0
-Completes ending came old new =
-    (bytes stream : List ℕ) (answers : List PutAnswer) → IsServed bytes stream answers came old → NoneRose old new
-    → (ending ≡ ending_owed bytes answers) ⊎ IsNoMemory ending
+abbrev pub Completes : Result Outcome IngestFault → Framing → LinkRecord → Outside → Outside → Type 0
+Completes ending framing came old new =
+    (bytes stream : List ℕ) (answers : List PutAnswer) → IsServed framing bytes stream answers came old → NoneRose old new
+    → (ending ≡ ending_owed framing bytes answers) ⊎ IsNoMemory ending

@@ -1,11 +1,13 @@
 -- A stream that is read in pieces: the items that a piece completes are taken before more is read.
-use Rattle.std.specs.Prelude.{◌≡◌, ◌⊎◌, ℕ, ◌<◌, List, [], ◌∷◌, ◌++◌, length, Option, Some, None, Result, Ok, Err}
+use Rattle.std.specs.Prelude.{◌≡◌, ◌⊎◌, ℕ, ◌<◌, true, List, [], ◌∷◌, ◌++◌, length, Option, Some, None, Result, Ok, Err}
 use Rattle.ldm_outside.specs.Count.{Rose}
 use Rattle.ldm_outside.specs.Io.{Gives, SourceRecord}
 use Rattle.ldm_session.specs.declared.limits.TheConstants.{LONGEST_STREAM}
 use Rattle.ldm_status.specs.Streams.{AtEnd}
+use Rattle.ldm_wmo.specs.declared.framing.Framing.{Framing}
+use Rattle.ldm_wmo.specs.declared.framing.Framing.TheVariants.{Line, Socket}
 use Rattle.ldm_wmo.specs.Items.{Found}
-use Rattle.ldm_wmo.specs.Scanning.{begun}
+use Rattle.ldm_wmo.specs.Scanning.{begun, is_lost}
 use Rattle.ldm_wmo.specs.Streams.{cut_at_end, in_hand, items_in}
 use Rattle.ldm_wmo.specs.declared.ingest_fault.IngestFault.{IngestFault}
 use Rattle.ldm_wmo.specs.declared.ingest_fault.IngestFault.TheVariants as fault
@@ -31,14 +33,14 @@ steps_of [] = []
 steps_of (turn ∷ turns) = turn.steps ++ steps_of turns
 
 -- the items that a piece completes, behind those bytes
-abbrev pub items_behind : List ℕ → List ℕ → List Found
-items_behind seen piece = items_in (in_hand begun seen) piece
+abbrev pub items_behind : Framing → List ℕ → List ℕ → List Found
+items_behind framing seen piece = items_in (in_hand (begun framing) seen) piece
 
 -- A piece was read, behind those bytes, and then the items were taken that it completed.
 pub record IsTurn (all : Ingesting) (seen : List ℕ) (turn : Turn) (old new : Span) : Type 0 where
   pub some : 0 < length turn.piece
   pub read : Gives old.source turn.piece new.source
-  pub taken : AreTaken all (items_behind seen turn.piece) turn.steps old.moment new.moment
+  pub taken : AreTaken all (items_behind all.framing seen turn.piece) turn.steps old.moment new.moment
 
 -- Pieces were read, one after another, behind those bytes, and the items taken.
 abbrev pub AreTurns : Ingesting → List ℕ → List Turn → Span → Span → Type 0
@@ -56,15 +58,20 @@ abbrev pub LogsCut : Option ℕ → IngestMoment → IngestMoment → Type 0
 LogsCut None old new = new ≡ old
 LogsCut (Some at) old new = Logs (cut_line at) old new
 
--- The source was read to its end, and all items were taken.
+-- The source was read to its end; or, behind a frame that is none, no more is read.
+abbrev pub IsOver : Framing → (seen : List ℕ) → SourceRecord → SourceRecord → Type 0
+IsOver Line seen old new = AtEnd old new
+IsOver Socket seen old new = AtEnd old new ⊎ (is_lost (in_hand (begun Socket) seen) ≡ true) × (new ≡ old)
+
+-- The stream was read as far as it is read, and all items were taken.
 pub record TakesAll (outcome : Outcome) (all : Ingesting) (old new : Span) : Type 0 where
   pub turns : List Turn
   pub mid : Span
   pub takes : Takes all turns old mid
-  pub at_end : AtEnd mid.source new.source
+  pub at_end : IsOver all.framing (bytes_of turns) mid.source new.source
   pub left : new.source.left ≡ mid.source.left
-  pub cut : LogsCut (cut_at_end (bytes_of turns)) mid.moment new.moment
-  pub outcome_is : outcome ≡ then_of (first_of (steps_of turns)) (cut_outcome (cut_at_end (bytes_of turns)))
+  pub cut : LogsCut (cut_at_end all.framing (bytes_of turns)) mid.moment new.moment
+  pub outcome_is : outcome ≡ then_of (first_of (steps_of turns)) (cut_outcome (cut_at_end all.framing (bytes_of turns)))
 
 -- All items of what the source gave were taken, and reading no more is why the run ended.
 pub record StopsReading (stops : SourceRecord → SourceRecord → Type 0) (all : Ingesting) (old new : Span) : Type 0 where
@@ -91,7 +98,7 @@ pub record StopsAt (why : IngestFault) (all : Ingesting) (old new : Span) : Type
   pub takes : Takes all turns old mid
   pub piece : List ℕ
   pub read : Gives mid.source piece new.source
-  pub breaks : BreaksAt why all (items_behind (bytes_of turns) piece) old.moment.wire.link mid.moment new.moment
+  pub breaks : BreaksAt why all (items_behind all.framing (bytes_of turns) piece) old.moment.wire.link mid.moment new.moment
 
 -- The source was read to its end, and the log failed at the line of the candidate that the end cuts off.
 pub record BreaksCut (all : Ingesting) (old new : Span) : Type 0 where
@@ -100,7 +107,7 @@ pub record BreaksCut (all : Ingesting) (old new : Span) : Type 0 where
   pub takes : Takes all turns old mid
   pub at_end : AtEnd mid.source new.source
   pub at : ℕ
-  pub cut : cut_at_end (bytes_of turns) ≡ Some at
+  pub cut : cut_at_end all.framing (bytes_of turns) ≡ Some at
   pub breaks : BreaksLog (cut_line at) mid.moment new.moment
 
 -- How taking the bulletins of a stream over a link ends.

@@ -1,11 +1,12 @@
 -- What bulletins are, and what a stream holds, as relations (WMO No. 386, Manual on the GTS, attachment II-5).
-use Rattle.std.specs.Prelude.{◌≡◌, ◌≢◌, ℕ, ◌+◌, ◌<◌, ◌≤◌, true, Bool, not, ◌==◌, List, [], ◌∷◌, ◌++◌, length, Option, Some, None, ◌⊎◌}
+use Rattle.std.specs.Prelude.{◌≡◌, ◌≢◌, ℕ, ◌+◌, ◌<◌, ◌≤◌, true, List, [], ◌∷◌, ◌++◌, length, Option, Some, None}
 use Rattle.std.specs.List.{list_all}
 use Rattle.ldm_text.specs.Blanks.{is_blank}
+use Rattle.ldm_wmo.specs.declared.kind.Kind.{Kind}
 use Rattle.ldm_wmo.specs.declared.stage.TheConstants.{LARGEST_BULLETIN}
 use Rattle.ldm_wmo.specs.Headings.{is_digit, is_heading}
 use Rattle.ldm_wmo.specs.Lines.{end_of_line, number_of}
-use Rattle.ldm_wmo.specs.Bulletins.{closing, has_no_mark, starting}
+use Rattle.ldm_wmo.specs.Bulletins.{closing, has_no_mark, is_text_of, starting}
 use Rattle.ldm_wmo.specs.Items.{Found, found_at}
 use Rattle.ldm_wmo.specs.Scanning.{place}
 
@@ -29,20 +30,20 @@ heading_spelling p = (p.heading ++ p.behind_heading) ++ (end_of_line ++ text_spe
 abbrev pub spelling : Parts → List ℕ
 spelling p = starting ++ ((p.digits ++ p.behind_digits) ++ (end_of_line ++ heading_spelling p))
 
--- which parts make a bulletin
-pub record AreParts (p : Parts) : Type 0 where
+-- which parts make a bulletin of that kind
+pub record AreParts (kind : Kind) (p : Parts) : Type 0 where
   pub some_digit : 0 < length p.digits
   pub few_digits : length p.digits ≤ 5
   pub digits : list_all is_digit p.digits ≡ true
   pub behind_digits : list_all is_blank p.behind_digits ≡ true
   pub heading : is_heading p.heading ≡ true
   pub behind_heading : list_all is_blank p.behind_heading ≡ true
-  pub text : has_no_mark p.text ≡ true
+  pub text : is_text_of kind p.text ≡ true
 
--- the bytes are a bulletin with that number and that heading
-pub record IsBulletin (bytes : List ℕ) (seqno : ℕ) (heading : List ℕ) : Type 0 where
+-- the bytes are a bulletin of that kind with that number and that heading
+pub record IsBulletin (kind : Kind) (bytes : List ℕ) (seqno : ℕ) (heading : List ℕ) : Type 0 where
   pub parts : Parts
-  pub are : AreParts parts
+  pub are : AreParts kind parts
   pub bytes_are : bytes ≡ spelling parts
   pub seqno_is : seqno ≡ number_of parts.digits
   pub heading_is : heading ≡ parts.heading

@@ -1,9 +1,10 @@
 //! What a bulletin's bytes say.
 ghost use Rattle.std.specs.Prelude.{◌≡◌, ◌≤◌, None, Some, IfSome, MatchOption, length};
-ghost use Rattle.ldm_wmo.specs.Bulletins.{bulletin_of, has_no_mark, is_closed_text, starting};
+ghost use Rattle.ldm_wmo.specs.Bulletins.{bulletin_of, has_no_mark, is_closed_text, is_text_of, starting};
 ghost use Rattle.ldm_wmo.specs.Lines.{behind};
 
 use crate::heading::LONGEST_HEADING;
+use crate::kind::Kind;
 use crate::lines::{heading_in, number_in, split_line};
 use memchr::memchr2;
 
@@ -26,10 +27,10 @@ pub(crate) struct Reading<'a> {
     pub(crate) heading: &'a [u8],
 }
 
-/// What a bulletin says, if the bytes are one.
-pub(crate) fn read_bulletin(bytes: &[u8]) -> Option<Reading<'_>>
-    ensures read { MatchOption result (bulletin_of bytes.now ≡ None)
-        (λ read. bulletin_of bytes.now ≡ Some (record { seqno = read.seqno; heading = read.heading.now })) }
+/// What a bulletin of that kind says, if the bytes are one.
+pub(crate) fn read_bulletin(kind: Kind, bytes: &[u8]) -> Option<Reading<'_>>
+    ensures read { MatchOption result (bulletin_of kind bytes.now ≡ None)
+        (λ read. bulletin_of kind bytes.now ≡ Some (record { seqno = read.seqno; heading = read.heading.now })) }
     ensures short { IfSome result (λ read. length read.heading.now ≤ LONGEST_HEADING) }
 {
     let rest = behind_starting(bytes)?;
@@ -37,7 +38,7 @@ pub(crate) fn read_bulletin(bytes: &[u8]) -> Option<Reading<'_>>
     let seqno = number_in(first.line)?;
     let second = split_line(first.rest)?;
     let heading = heading_in(second.line)?;
-    if !is_closed_text(second.rest) {
+    if !is_closed_text(kind, second.rest) {
         return None;
     }
     Some(Reading { seqno, heading })
@@ -51,14 +52,23 @@ fn behind_starting(bytes: &[u8]) -> Option<&[u8]>
     bytes.strip_prefix(STARTING)
 }
 
-// Whether it is a text without a 1 and a 3, and then the end of a bulletin.
+// Whether it is a text of that kind, and then the end of a bulletin.
 #[tactic(auto, unfolding(crate::specs::Bulletins::is_closed_text))]
-fn is_closed_text(bytes: &[u8]) -> bool
-    ensures { result ≡ is_closed_text bytes.now }
+fn is_closed_text(kind: Kind, bytes: &[u8]) -> bool
+    ensures { result ≡ is_closed_text kind bytes.now }
 {
     match bytes.strip_suffix(CLOSING) {
-        Some(text) => is_text(text),
+        Some(text) => is_text_of(kind, text),
         None => false,
+    }
+}
+
+fn is_text_of(kind: Kind, text: &[u8]) -> bool
+    ensures { result ≡ is_text_of kind text.now }
+{
+    match kind {
+        Kind::Alphanumeric => is_text(text),
+        Kind::Binary | Kind::Facsimile => true,
     }
 }
 

@@ -1,5 +1,6 @@
 //! A check of the definitions: worked examples that compute.
 ghost use Rattle.std.specs.Prelude.{◌≡◌, ◌∷◌, [], Some, None, codes, length, true, false};
+ghost use Rattle.ldm_wmo.specs.declared.framing.Framing.TheVariants.{Line};
 ghost use Rattle.ldm_wmo.specs.declared.stage.TheConstants.{LARGEST_BULLETIN};
 ghost use Rattle.ldm_wmo.specs.Headings.{is_heading};
 ghost use Rattle.ldm_wmo.specs.Lines.{heading_in, number_in};
@@ -11,8 +12,8 @@ ghost use Rattle.ldm_wmo.specs.Writing.{digits_of};
 /// Worked examples of streams, numbers and headings.
 pub fn worked_examples()
     ensures size { length sample ≡ 39 }
-    ensures items { items_of sample_stream ≡ Bulletin 2 1 sample_heading sample ∷ Bad 41 ∷ [] }
-    ensures cut { cut_at_end sample_stream ≡ Some 43 }
+    ensures items { items_of Line sample_stream ≡ Bulletin 2 1 sample_heading sample ∷ Bad 41 ∷ [] }
+    ensures cut { cut_at_end Line sample_stream ≡ Some 43 }
     ensures largest { LARGEST_BULLETIN ≡ 1048576 }
     ensures no_digit { number_in (codes " ") ≡ None }
     ensures one_digit { number_in (codes "7 \t ") ≡ Some 7 }

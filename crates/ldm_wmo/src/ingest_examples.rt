@@ -2,6 +2,7 @@
 ghost use Rattle.std.specs.Prelude.{◌≡◌, ◌++◌, [], ◌∷◌, codes, Err};
 ghost use Rattle.ldm_tools.specs.declared.put_fault.PutFault.TheVariants.{Denied};
 ghost use Rattle.ldm_tools.specs.Owing.{AreOwed};
+ghost use Rattle.ldm_wmo.specs.declared.framing.Framing.TheVariants.{Line};
 ghost use Rattle.ldm_wmo.specs.Samples.{sample, sample_heading, sample_stream};
 ghost use Rattle.ldm_wmo.specs.declared.ingest_fault.IngestFault.TheVariants.{Put};
 ghost use Rattle.ldm_wmo.specs.declared.outcome.Outcome.TheVariants.{Bad, Refused};
@@ -22,5 +23,5 @@ pub fn worked_examples_of_ingesting()
     ensures number { BAD_BULLETIN ≡ 65 }
     ensures owed { AreOwed (reports_of sample_items) sample_answers }
     ensures owed_bad { owed_of sample_items sample_answers ≡ Bad }
-    ensures denied_ending { ending_owed sample_stream sample_denial ≡ Err (Put Denied) }
+    ensures denied_ending { ending_owed Line sample_stream sample_denial ≡ Err (Put Denied) }
 {}

@@ -1,6 +1,8 @@
 //! What is told of a run, by the definitions alone. These functions do nothing: their contracts are the laws.
 ghost use Rattle.std.specs.Prelude.{◌≡◌, ℕ, List, [], ◌++◌, Result};
 ghost use Rattle.ldm_outside.specs.Io.{Gives};
+ghost use Rattle.ldm_wmo.specs.declared.framing.Framing.{Framing};
+ghost use Rattle.ldm_wmo.specs.declared.kind.Kind.{Kind};
 ghost use Rattle.ldm_wmo.specs.Items.{Found};
 ghost use Rattle.ldm_wmo.specs.Spelling.{IsBulletin, heading_spelling};
 ghost use Rattle.ldm_wmo.specs.Streams.{items_of};
@@ -19,12 +21,13 @@ pub fn what_is_told_of_bulletins()
     // However the source is cut into pieces: over all items of the bytes that it gave.
     ensures turns { (all : Ingesting) (turns : List Turn) (old new : Span) → AreTurns all [] turns old new
         → Gives old.source (bytes_of turns) new.source
-        × Told all (items_of (bytes_of turns)) (steps_of turns) old.moment new.moment }
+        × Told all (items_of all.framing (bytes_of turns)) (steps_of turns) old.moment new.moment }
     // Over items that were taken of a piece, before one at which the run ended.
     ensures items { (all : Ingesting) (items : List Found) (steps : List Step) (old new : IngestMoment)
         → AreTaken all items steps old new → Told all items steps old new }
     // The items of a piece come behind those of the bytes before it.
-    ensures behind { (seen piece : List ℕ) → items_of (seen ++ piece) ≡ items_of seen ++ items_behind seen piece }
+    ensures behind { (framing : Framing) (seen piece : List ℕ)
+        → items_of framing (seen ++ piece) ≡ items_of framing seen ++ items_behind framing seen piece }
     // Which count rose.
     ensures causes { (ending : Result Outcome IngestFault) (all : Ingesting) (old new : Outside)
         → IngestEnds ending all old new → Cause ending old new }
@@ -32,6 +35,7 @@ pub fn what_is_told_of_bulletins()
 
 /// What is signed of a bulletin: all its bytes from its heading on.
 pub fn what_is_signed()
-    ensures signed { (bytes : List ℕ) (seqno : ℕ) (heading : List ℕ) (is : IsBulletin bytes seqno heading)
+    ensures signed { (kind : Kind) (bytes : List ℕ) (seqno : ℕ) (heading : List ℕ)
+        (is : IsBulletin kind bytes seqno heading)
         → from_heading bytes ≡ heading_spelling is.parts }
 {}

@@ -1,9 +1,12 @@
 //! Where bulletins go, and what their products have in common.
+use crate::framing::Framing;
 use ldm_types::Feed;
 
 /// Where the bulletins of a stream go, and what their products have in common.
 #[derive(Clone, Copy, Debug)]
 pub struct Ingestion<'a> {
+    /// How they stand in the stream.
+    pub framing: Framing,
     /// The host of the node: a name or an address.
     pub host: &'a [u8],
     /// Its port.

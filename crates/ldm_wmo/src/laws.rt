@@ -1,6 +1,9 @@
 //! What holds of all streams. These functions do nothing: their contracts are the laws.
 ghost use Rattle.std.specs.Prelude.{◌≡◌, ◌<◌, ◌+◌, ◌^◌, ℕ, List, ◌∷◌, ◌++◌, None, Option, Some, false, drop, length};
+ghost use Rattle.ldm_wmo.specs.declared.framing.Framing.TheVariants.{Line, Socket};
+ghost use Rattle.ldm_wmo.specs.declared.kind.Kind.{Kind};
 ghost use Rattle.ldm_wmo.specs.Bulletins.{bulletin_of};
+ghost use Rattle.ldm_wmo.specs.Messages.{messages_of};
 ghost use Rattle.ldm_wmo.specs.Spelling.{Holds, IsBulletin};
 ghost use Rattle.ldm_wmo.specs.Scanning.{Scanning, after, bytes_taken, is_complete, next_of, outside, place};
 ghost use Rattle.ldm_wmo.specs.Items.{Bulletin, Found};
@@ -26,11 +29,11 @@ pub fn pushes_scan_the_stream()
 
 /// The bytes that are a bulletin, by its parts, are read as one, and no others are.
 pub fn bulletins_are_read()
-    ensures read { (bytes : List ℕ) (seqno : ℕ) (heading : List ℕ) → IsBulletin bytes seqno heading
-        → bulletin_of bytes ≡ Some (record { seqno = seqno; heading = heading }) }
-    ensures spelled { (bytes : List ℕ) (seqno : ℕ) (heading : List ℕ)
-        → bulletin_of bytes ≡ Some (record { seqno = seqno; heading = heading })
-        → IsBulletin bytes seqno heading }
+    ensures read { (kind : Kind) (bytes : List ℕ) (seqno : ℕ) (heading : List ℕ)
+        → IsBulletin kind bytes seqno heading → bulletin_of kind bytes ≡ Some (record { seqno = seqno; heading = heading }) }
+    ensures spelled { (kind : Kind) (bytes : List ℕ) (seqno : ℕ) (heading : List ℕ)
+        → bulletin_of kind bytes ≡ Some (record { seqno = seqno; heading = heading })
+        → IsBulletin kind bytes seqno heading }
 {}
 
 /// A written bulletin is found as itself, and the stream goes on behind it.
@@ -44,7 +47,14 @@ pub fn written_bulletins_are_found()
 /// What is found in a stream is what it holds, and it holds nothing else: bytes outside candidates, candidates that
 /// end, and perhaps one that is cut.
 pub fn streams_are_read()
-    ensures holds { (stream : List ℕ) → Holds 0 stream (items_of stream) (cut_at_end stream) }
+    ensures holds { (stream : List ℕ) → Holds 0 stream (items_of Line stream) (cut_at_end Line stream) }
     ensures once { (stream : List ℕ) (items : List Found) (cut : Option ℕ) → Holds 0 stream items cut
-        → (items ≡ items_of stream) × (cut ≡ cut_at_end stream) }
+        → (items ≡ items_of Line stream) × (cut ≡ cut_at_end Line stream) }
+{}
+
+/// The messages of a stream in frames: what the scanner finds, however the stream is cut, is what the frames of the whole
+/// stream hold, and where the frame begins that its end cuts off.
+pub fn frames_are_read()
+    ensures items { (stream : List ℕ) → items_of Socket stream ≡ (messages_of stream).items }
+    ensures cut { (stream : List ℕ) → cut_at_end Socket stream ≡ (messages_of stream).cut }
 {}

@@ -63,8 +63,9 @@ fn count_digits(bytes: &[u8]) -> usize
         .count()
 }
 
-fn number_of(digits: &[u8]) -> u32
-    requires few { length digits.now ≤ MOST_DIGITS }
+/// The number that at most eight digits spell.
+pub(crate) fn number_of(digits: &[u8]) -> u32
+    requires few { length digits.now ≤ 8 }
     ensures { result ≡ number_of digits.now }
 {
     let mut value = 0u32;

@@ -10,6 +10,7 @@ ghost use Rattle.ldm_wmo.specs.Ingesting.{IsNamed, ingesting};
 ghost use Rattle.ldm_wmo.specs.Parts.{KeepsOver, RunsFrom, TellsCut, finished, over_tells, tellers};
 
 use crate::Scanner;
+use crate::framing::Framing;
 use crate::ingest_fault::IngestFault;
 use crate::ingest_lines::write_cut;
 use crate::ingestion::Ingestion;
@@ -56,7 +57,7 @@ pub(crate) fn take_stream<S: Source, L: Link, K: Sink, E: Sink, C: Clock>(
         (over_tells S.tells (tellers L.tells K.tells E.tells C.tells) source.new link.new sink.new log.new clock.new) }
     ensures still_open { IsNotClosed (L.tells link.new) }
 {
-    match take_room(alloc) {
+    match take_room(alloc, ingestion.framing) {
         Ok(Room { taker, mut buffer }) => take_pieces(
             source,
             link,
@@ -71,15 +72,15 @@ pub(crate) fn take_stream<S: Source, L: Link, K: Sink, E: Sink, C: Clock>(
     }
 }
 
-fn take_room(alloc: Global) -> Result<Room, OutOfMemory>
+fn take_room(alloc: Global, framing: Framing) -> Result<Room, OutOfMemory>
     ensures puts { IfOk result (λ room. HasPut [] [] room.taker.puts) }
-    ensures scanner { IfOk result (λ room. room.taker.scanner ≡ begun) }
+    ensures scanner { IfOk result (λ room. room.taker.scanner ≡ begun framing) }
     ensures buffer { IfOk result (λ room. length room.buffer.items ≡ PIECE) }
 {
     Ok(Room {
         taker: Taker {
             puts: Puts::create(alloc)?,
-            scanner: Scanner::create(alloc)?,
+            scanner: Scanner::create(alloc, framing)?,
         },
         buffer: vec![in alloc; 0u8; PIECE]?,
     })
@@ -99,7 +100,7 @@ fn take_pieces<S: Source, L: Link, K: Sink, E: Sink, C: Clock>(
     requires not_closed { IsNotClosed (L.tells link.old) }
     requires named { IsNamed (ingesting ingestion.now) }
     requires puts { HasPut [] [] taker.puts }
-    requires scanner { taker.scanner ≡ begun }
+    requires scanner { taker.scanner ≡ begun ingestion.now.framing }
     requires buffer { length buffer.old ≡ PIECE }
     ensures runs { RunsFrom result (ingesting ingestion.now)
         (over_tells S.tells (tellers L.tells K.tells E.tells C.tells) source.old link.old sink.old log.old clock.old)
@@ -116,6 +117,9 @@ fn take_pieces<S: Source, L: Link, K: Sink, E: Sink, C: Clock>(
     let mut met = Outcome::Clean;
     let mut came = 0;
     while came < LONGEST_STREAM {
+        if scanner.is_lost() {
+            return Ok(met);
+        }
         let room = (LONGEST_STREAM - came).min(PIECE as u64) as usize;
         match read_piece(source, buffer, room) {
             Got::Bytes(n) => {

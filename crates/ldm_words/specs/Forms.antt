@@ -160,6 +160,8 @@ pub record WmoForm : Type 0 where
   -- a set of feedtypes, as a number whose bits are the members
   pub feed : ℕ
   pub origin : Text
+  -- whether each bulletin is in a frame, as over a socket
+  pub socket : Bool
   pub peer : Address
 
 abbrev pub wmo_of : List Row → Option WmoForm
@@ -167,7 +169,7 @@ wmo_of rows =
     said feed_number (codes "feed") rows >>= λ feed.
     said origin_of (codes "origin") rows >>= λ origin.
     said peer_of (codes "peer") rows >>= λ peer.
-    Some (record { feed = feed; origin = origin; peer = peer })
+    Some (record { feed = feed; origin = origin; socket = is_used (first_of (codes "socket") rows); peer = peer })
 
 abbrev pub wmo_form : List Text → Option WmoForm
 wmo_form words = matched wmo_command words >>= wmo_of

@@ -201,10 +201,18 @@ pub fn worked_examples_of_wmo()
     ensures by_default { wmo_form [] ≡ Some (record {
       feed = 8;
       origin = codes "localhost";
+      socket = false;
       peer = record { host = codes "127.0.0.1"; port = 388 };
     }) }
     ensures given { wmo_form (codes "-fDDS" ∷ codes "-o" ∷ codes "h" ∷ codes "-qa:1" ∷ [])
-        ≡ Some (record { feed = 2; origin = codes "h"; peer = record { host = codes "a"; port = 1 } }) }
+        ≡ Some (record { feed = 2; origin = codes "h"; socket = false; peer = record { host = codes "a"; port = 1 } }) }
+    ensures socket { wmo_form (codes "-s" ∷ []) ≡ Some (record {
+      feed = 8;
+      origin = codes "localhost";
+      socket = true;
+      peer = record { host = codes "127.0.0.1"; port = 388 };
+    }) }
+    ensures socket_twice { wmo_form (codes "-s" ∷ codes "-s" ∷ []) ≡ None }
     ensures zero_byte { wmo_form (codes "-oa\0" ∷ []) ≡ None }
     ensures no_word { wmo_form (codes "f" ∷ []) ≡ None }
 {}

@@ -132,6 +132,8 @@ pub struct WmoWords<'a> {
     pub feed: Feed,
     /// The origin of the products.
     pub origin: &'a [u8],
+    /// Whether each bulletin is in a frame, as over a socket.
+    pub socket: bool,
     /// The node to ask.
     pub peer: Address,
     pub ghost named: { IsName origin.now [] },

@@ -7,14 +7,14 @@ ghost use Rattle.ldm_words.specs.Faults.{IsFaultOf};
 ghost use Rattle.ldm_words.specs.Forms.{wmo_form, wmo_of};
 ghost use Rattle.ldm_words.specs.Views.{rows_in, wmo_view};
 
-use crate::command::{bare, option_or, parse};
+use crate::command::{bare, flag, option_or, parse};
 use crate::fault::WordsFault;
 use crate::said::WmoWords;
-use crate::values::{feed, origin, peer};
+use crate::values::{feed, is_used, origin, peer};
 use clap::{ArgMatches, Command};
 use std::alloc::{AllocError, Global};
 
-/// Where words ask `wmo` to put bulletins: `[-f FEED] [-o ORIGIN] [-q HOST:PORT]`, by default `IDS`, `localhost` and
+/// Where words ask `wmo` to put bulletins: `[-f FEED] [-o ORIGIN] [-s] [-q HOST:PORT]`, by default `IDS`, `localhost` and
 /// `127.0.0.1:388`. The origin has at most 64 bytes, none of them zero, and HOST has 1 to 255 bytes.
 ///
 /// `Usage` comes exactly where the words are no form.
@@ -32,6 +32,7 @@ fn wmo_command<'a>(alloc: Global) -> Result<Command<'a>, AllocError>
     bare(alloc, "wmo")
         .arg(option_or(alloc, "feed", 'f', "IDS"))?
         .arg(option_or(alloc, "origin", 'o', "localhost"))?
+        .arg(flag(alloc, "socket", 's'))?
         .arg(option_or(alloc, "peer", 'q', "127.0.0.1:388"))
 }
 
@@ -41,5 +42,10 @@ fn wmo_of<'a>(matches: &ArgMatches<'a>) -> Option<WmoWords<'a>>
     let feed = feed(matches)?;
     let origin = origin(matches)?;
     let peer = peer(matches)?;
-    Some(WmoWords { feed, origin, peer })
+    Some(WmoWords {
+        feed,
+        origin,
+        socket: is_used(matches, "socket"),
+        peer,
+    })
 }

@@ -7,7 +7,7 @@ use Rattle.ldm_wmo.proofs.ingest_laws.what_is_told_of_bulletins.Goals as goal
 pub returns-clause-turns : goal.returns-clause-turns
 returns-clause-turns c = λ all turns old new each.
     let w = whole all turns old new each in
-    (w.read, told all (items_of (bytes_of turns)) (steps_of turns) old.moment new.moment w.taken)
+    (w.read, told all (items_of all.framing (bytes_of turns)) (steps_of turns) old.moment new.moment w.taken)
 
 pub returns-clause-items : goal.returns-clause-items
 returns-clause-items c = told

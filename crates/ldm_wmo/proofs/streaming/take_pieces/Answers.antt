@@ -1,4 +1,4 @@
-use Rattle.std.proofs.Common.{◌≡◌, ◌+◌, ◌<◌, ℕ, List, [], Option, IfSome, length, take, refl, ap, subst, sym, arith}
+use Rattle.std.proofs.Common.{◌≡◌, ◌∙◌, ◌+◌, ◌<◌, ℕ, List, [], Option, IfSome, length, take, refl, ap, subst, sym, arith}
 use Rattle.std.specs.Prelude.{Result}
 use Rattle.std.proofs.lemmas.List.{length-take-le}
 use Rattle.ldm_session.specs.declared.limits.TheConstants.{LONGEST_STREAM}
@@ -8,7 +8,8 @@ use Rattle.ldm_wmo.specs.declared.ingest_fault.IngestFault.{IngestFault}
 use Rattle.ldm_wmo.specs.declared.outcome.Outcome.{Outcome}
 use Rattle.ldm_wmo.specs.Ingesting.{ingesting}
 use Rattle.ldm_wmo.specs.Parts.{KeepsOver, RunsFrom, over_tells, tellers}
-use Rattle.ldm_wmo.proofs.Stream.{Goes, end_told, goes_first, goes_on, item_broken, over_same, over_then}
+use Rattle.ldm_wmo.proofs.Lost.{begun_open}
+use Rattle.ldm_wmo.proofs.Stream.{Goes, end_told, goes_first, goes_on, item_broken, lost_ended, over_same, over_then}
 use Rattle.ldm_wmo.proofs.streaming.take_pieces.Goals as goal
 
 pub loop-came-init : goal.loop-came-init
@@ -18,11 +19,21 @@ loop-came-init g c =
     record {
       goes = goes_first (ingesting c.args.ingestion.now) c.args.taker.scanner c.args.taker.puts old c.requires.puts c.requires.scanner;
       kept = over_same old;
-      ready = ap is_complete c.requires.scanner;
+      ready = ap is_complete c.requires.scanner ∙ begun_open c.args.ingestion.now.framing;
       most = omega arith;
       room = c.requires.buffer;
       not_closed = c.requires.not_closed;
     }
+
+pub returns-then-is_lost-clause-runs : goal.returns-then-is_lost-clause-runs
+returns-then-is_lost-clause-runs g c =
+    let all = ingesting c.args.ingestion.now in
+    let tells = tellers g.L.Link.tells g.K.Sink.tells g.E.Sink.tells g.C.Clock.tells in
+    let old = over_tells g.S.Source.tells tells c.args.source.now c.args.link.now c.args.sink.now c.args.log.now c.args.clock.now in
+    let mid = over_tells g.S.Source.tells tells c.loop-came.source c.loop-came.link c.loop-came.sink c.loop-came.log c.loop-came.clock in
+    let short : c.loop-came.came < LONGEST_STREAM = omega (arith, c.loop-came-test.true) in
+    lost_ended all c.loop-came.met c.loop-came.scanner c.loop-came.puts c.loop-came.came old mid c.loop-came.invariant.goes c.loop-came.invariant.kept short
+    (sym c.is_lost.ensures ∙ c.if-is_lost.true)
 
 pub returns-in-Err-clause-runs : goal.returns-in-Err-clause-runs
 returns-in-Err-clause-runs g c =

@@ -10,6 +10,14 @@ pub returns-clause-given : goal.returns-clause-given
 unfolding on_literals
 returns-clause-given c = refl
 
+pub returns-clause-socket : goal.returns-clause-socket
+unfolding on_literals
+returns-clause-socket c = refl
+
+pub returns-clause-socket_twice : goal.returns-clause-socket_twice
+unfolding on_literals
+returns-clause-socket_twice c = refl
+
 pub returns-clause-zero_byte : goal.returns-clause-zero_byte
 unfolding on_literals
 returns-clause-zero_byte c = refl

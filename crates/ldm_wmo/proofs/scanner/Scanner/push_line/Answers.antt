@@ -1,8 +1,7 @@
-use Rattle.std.proofs.Common.{◌+◌, ◌-◌, ◌<◌, ◌≡◌, true, drop, length, arith, length-drop}
+use Rattle.std.proofs.Common.{◌+◌, ◌-◌, ◌≡◌, drop, length, arith, length-drop}
 use Rattle.std.proofs.lemmas.List.{take_rest}
-use Rattle.ldm_wmo.specs.Scanning.{is_complete}
 use Rattle.ldm_wmo.proofs.Fronts.{HasTaken, has_taken}
-use Rattle.ldm_wmo.proofs.scanner.Scanner.push.Goals as goal
+use Rattle.ldm_wmo.proofs.scanner.Scanner.push_line.Goals as goal
 
 taken : (c : goal.After-gather) → HasTaken c.args.self.now c.args.piece.now (c.begin-begun.result + c.gather.result) c.gather.new.self
 taken c =
