@@ -1,10 +1,13 @@
 -- What is warned of in a line or an entry: what is seen of a pattern without reading it, and of a path or the name of a program.
-use Rattle.std.specs.Prelude.{ℕ, Bool, true, false, ◌==◌, ◌&&◌, ◌||◌, nat_le, if◌then◌else◌, List, [], ◌∷◌, take, drop}
+use Rattle.std.specs.Prelude.{ℕ, Bool, true, false, ◌==◌, ◌&&◌, ◌||◌, nat_le, if◌then◌else◌, List, [], ◌∷◌, ◌++◌, codes, take, drop, Option, Some, None}
 use Rattle.std.specs.List.{position_or_len, prefix_len}
+use Rattle.std.specs.Str.{str_eq_ignore_ascii_case}
 use Rattle.ldm_text.specs.Blanks.{is_blank}
+use Rattle.ldm_feedtype.specs.Reading.{feed_number}
 use Rattle.ldm_check.specs.declared.patterns.Place.{Place}
 use Rattle.ldm_check.specs.declared.patterns.Place.TheVariants as place
 use Rattle.ldm_check.specs.declared.warning.Concern.TheVariants as concern
+use Rattle.ldm_check.specs.declared.warnings.RuleWords as code
 use Rattle.ldm_check.specs.declared.warnings.TheConstants.{MOST_REQUESTS, USUAL_REQUESTS}
 use Rattle.ldm_check.specs.Warnings.{Warning, NoTool, OfLine}
 
@@ -90,13 +93,68 @@ behind_blanks text = drop (prefix_len is_blank text) text
 abbrev pub second_field : List ℕ → List ℕ
 second_field line = field_of (behind_blanks (drop (position_or_len (λ byte. byte == 9) line) line))
 
+-- ---- rules
+
+-- whom an ALLOW or an ACCEPT line meets
+pub record RuleWords : Type 0 where
+  pub feedtype : List ℕ
+  pub host : List ℕ
+
+-- `ACCEPT feedtype pattern hostpattern`, by what stands behind the pattern
+abbrev pub accept_words : List ℕ → List (List ℕ) → Option RuleWords
+accept_words feedtype [] = None
+accept_words feedtype (host ∷ words) = Some (record { feedtype = feedtype; host = host })
+
+-- by the keyword, and the words behind it
+abbrev pub by_keyword : List ℕ → List ℕ → List ℕ → List (List ℕ) → Option RuleWords
+by_keyword keyword feedtype word words =
+    if str_eq_ignore_ascii_case (codes "ALLOW") keyword then Some (record { feedtype = feedtype; host = word })
+    else if str_eq_ignore_ascii_case (codes "ACCEPT") keyword then accept_words feedtype words
+    else None
+
+-- by the words of a line
+abbrev pub rule_words : List (List ℕ) → Option RuleWords
+rule_words [] = None
+rule_words (keyword ∷ []) = None
+rule_words (keyword ∷ feedtype ∷ []) = None
+rule_words (keyword ∷ feedtype ∷ word ∷ words) = by_keyword keyword feedtype word words
+
+-- what contracts see of the words of a rule
+abbrev pub rule_view : Option code.RuleWords → Option RuleWords
+rule_view None = None
+rule_view (Some rule) = Some (record { feedtype = rule.feedtype.now; host = rule.host.now })
+
+-- whether a feedtype has no member, as NONE
+abbrev pub is_empty : Option ℕ → Bool
+is_empty None = false
+is_empty (Some feed) = feed == 0
+
+abbrev pub is_none : List ℕ → Bool
+is_none feedtype = is_empty (feed_number feedtype)
+
 -- ---- what is warned of
 
--- in an entry that has these words and begins in that line of a file
+-- in an entry that begins in that line of a file, and whose path or program is that word
+abbrev pub word_warnings : List ℕ → ℕ → List ℕ → List ℕ → List Warning
+word_warnings path number line word =
+    if names_group word && may_hold_slash (second_field line) then OfLine path number concern.GroupInPath ∷ [] else []
+
+-- in an entry that has these words
 abbrev pub entry_warnings : List ℕ → ℕ → List ℕ → List (List ℕ) → List Warning
 entry_warnings path number line [] = []
-entry_warnings path number line (word ∷ words) =
-    if names_group word && may_hold_slash (second_field line) then OfLine path number concern.GroupInPath ∷ [] else []
+entry_warnings path number line (word ∷ words) = word_warnings path number line word
+
+-- in a line that meets some feedtype, and some hosts
+abbrev pub feedtype_warnings : List ℕ → ℕ → List ℕ → List Warning
+feedtype_warnings path number feedtype = if is_none feedtype then OfLine path number concern.NoMember ∷ [] else []
+
+abbrev pub host_warnings : List ℕ → ℕ → List ℕ → List Warning
+host_warnings path number host = if has_name host then OfLine path number concern.HasName ∷ [] else []
+
+-- in a line, if it is an ALLOW or an ACCEPT line
+abbrev pub rule_warnings : List ℕ → ℕ → Option RuleWords → List Warning
+rule_warnings path number None = []
+rule_warnings path number (Some rule) = feedtype_warnings path number rule.feedtype ++ host_warnings path number rule.host
 
 -- at a REQUEST line, where so many stand before it
 abbrev pub request_warnings : List ℕ → ℕ → ℕ → List Warning
