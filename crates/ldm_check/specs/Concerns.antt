@@ -163,6 +163,11 @@ request_warnings path number before =
     else if before == MOST_REQUESTS then OfLine path number concern.NoWorker ∷ []
     else []
 
+-- in a line that asks for this, where so many REQUEST lines stand before it
+abbrev pub asking_warnings : {A : Type 0} → List ℕ → ℕ → ℕ → List A → List Warning
+asking_warnings path number before [] = []
+asking_warnings path number before (request ∷ requests) = request_warnings path number before
+
 -- at the end of an ldmd.conf, where some ALLOW line lets a tool of this machine in, or none does
 abbrev pub end_warnings : List ℕ → Bool → List Warning
 end_warnings path lets_in = if lets_in then [] else NoTool path ∷ []

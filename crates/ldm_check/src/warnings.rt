@@ -6,7 +6,7 @@ ghost use Rattle.ldm_conf.specs.Lines.{without_return};
 ghost use Rattle.ldm_text.specs.Words.{words_of};
 ghost use Rattle.ldm_text.specs.declared.limits.TheConstants.{LONGEST_CONFIGURATION};
 ghost use Rattle.ldm_text.specs.declared.words.Comments.TheVariants.{Hash};
-ghost use Rattle.ldm_check.specs.Concerns.{behind_blanks, end_warnings, entry_warnings, field_of, is_group};
+ghost use Rattle.ldm_check.specs.Concerns.{asking_warnings, behind_blanks, end_warnings, entry_warnings, field_of, is_group};
 ghost use Rattle.ldm_check.specs.Concerns.{by_keyword, feedtype_warnings, host_warnings, is_none, names_group};
 ghost use Rattle.ldm_check.specs.Concerns.{request_warnings, rule_view, rule_warnings, rule_words, second_field};
 ghost use Rattle.ldm_check.specs.Concerns.{word_warnings};
@@ -85,7 +85,12 @@ impl Warnings {
         path: &str,
         line: &Line<'_>,
         conf: &Conf,
-    ) -> Result<(), OutOfMemory> {
+    ) -> Result<(), OutOfMemory>
+        ensures { OnOk result (warning_views self.new.list.items
+            ≡ warning_views self.old.list.items ++ (rule_warnings path.now line.now.number
+            (rule_words (words_of Hash (without_return line.now.text.now)).words)
+            ++ asking_warnings path.now line.now.number self.old.requests conf.now.requests.items)) }
+    {
         self.look_at_rule(alloc, path, line)?;
         self.look_at_requests(alloc, path, line, conf)?;
         self.note_commands(alloc, path, line, conf)?;
@@ -97,9 +102,10 @@ impl Warnings {
 
     // Warns of an ALLOW or an ACCEPT line that meets nobody.
     fn look_at_rule(&mut self, alloc: Global, path: &str, line: &Line<'_>) -> Result<(), AllocError>
-        ensures { OnOk result (warning_views self.new.list.items
+        ensures warned { OnOk result (warning_views self.new.list.items
             ≡ warning_views self.old.list.items ++ rule_warnings path.now line.now.number
             (rule_words (words_of Hash (without_return line.now.text.now)).words)) }
+        ensures requests { self.new.requests ≡ self.old.requests }
     {
         let Some(rule) = rule_of(without_return(line.text)) else {
             return Ok(());
@@ -117,8 +123,9 @@ impl Warnings {
         number: u64,
         feedtype: &[u8],
     ) -> Result<(), AllocError>
-        ensures { OnOk result (warning_views self.new.list.items
+        ensures warned { OnOk result (warning_views self.new.list.items
             ≡ warning_views self.old.list.items ++ feedtype_warnings path.now number feedtype.now) }
+        ensures requests { self.new.requests ≡ self.old.requests }
     {
         if is_none(feedtype) {
             return self.warn(alloc, path, number, Concern::NoMember);
@@ -134,8 +141,9 @@ impl Warnings {
         number: u64,
         host: &[u8],
     ) -> Result<(), AllocError>
-        ensures { OnOk result (warning_views self.new.list.items
+        ensures warned { OnOk result (warning_views self.new.list.items
             ≡ warning_views self.old.list.items ++ host_warnings path.now number host.now) }
+        ensures requests { self.new.requests ≡ self.old.requests }
     {
         if has_name(host) {
             return self.warn(alloc, path, number, Concern::HasName);
@@ -150,10 +158,13 @@ impl Warnings {
         path: &str,
         line: &Line<'_>,
         conf: &Conf,
-    ) -> Result<(), AllocError> {
-        if conf.requests.is_empty() {
+    ) -> Result<(), AllocError>
+        ensures { OnOk result (warning_views self.new.list.items
+            ≡ warning_views self.old.list.items ++ asking_warnings path.now line.now.number self.old.requests conf.now.requests.items) }
+    {
+        let [_, ..] = conf.requests.as_slice() else {
             return Ok(());
-        }
+        };
         let before = self.requests;
         self.requests = before.saturating_add(1);
         self.look_at_request(alloc, path, u64::from(line.number), before)
@@ -186,7 +197,9 @@ impl Warnings {
         path: &str,
         line: &Line<'_>,
         conf: &Conf,
-    ) -> Result<(), AllocError> {
+    ) -> Result<(), AllocError>
+        ensures { self.new.list ≡ self.old.list }
+    {
         for command in &conf.commands {
             if let [program, ..] = command.words.as_slice() {
                 self.programs
@@ -304,8 +317,9 @@ impl Warnings {
         number: u64,
         concern: Concern,
     ) -> Result<(), AllocError>
-        ensures { OnOk result (warning_views self.new.list.items
+        ensures warned { OnOk result (warning_views self.new.list.items
             ≡ warning_views self.old.list.items ++ OfLine path.now number concern ∷ []) }
+        ensures requests { self.new.requests ≡ self.old.requests }
     {
         let path = String::from_str(alloc, path)?;
         self.list.push(Warning::OfLine(path, number, concern))?;
