@@ -1,4 +1,5 @@
--- What is warned of in a line or an entry: what is seen of a pattern without reading it, and of a path or the name of a program.
+-- What is warned of in a line or an entry: what is seen of a pattern without reading it, and of a path or the name of a
+-- program.
 use Rattle.std.specs.Prelude.{ℕ, Bool, true, false, ◌==◌, ◌&&◌, ◌||◌, nat_le, if◌then◌else◌, List, [], ◌∷◌, ◌++◌, codes, take, drop, Option, Some, None}
 use Rattle.std.specs.List.{position_or_len, prefix_len}
 use Rattle.std.specs.Str.{str_eq_ignore_ascii_case}
@@ -16,7 +17,10 @@ use Rattle.ldm_check.specs.Warnings.{Warning, NoTool, OfLine}
 -- the place of the byte behind one that is outside brackets and stands for itself
 abbrev pub behind_plain : ℕ → Place
 behind_plain byte =
-    if byte == 92 then place.Escaped else if byte == 91 then place.Class else if byte == 40 then place.Opened else place.Plain
+    if byte == 92 then place.Escaped
+    else if byte == 91 then place.Class
+    else if byte == 40 then place.Opened
+    else place.Plain
 
 -- the place of the byte behind one at that place
 abbrev pub place_behind : Place → ℕ → Place
@@ -49,7 +53,8 @@ has_name_at at (byte ∷ bytes) = is_literal at && is_letter byte || has_name_at
 abbrev pub has_name : List ℕ → Bool
 has_name pattern = has_name_at place.Plain pattern
 
--- whether a byte there may be found as a slash or a dot: a dot (46), a slash (47), a negated class (94), or an escape of upper case
+-- whether a byte there may be found as a slash or a dot: a dot (46), a slash (47), a negated class (94), or an escape of
+-- upper case
 abbrev pub may_be_slash : Place → ℕ → Bool
 may_be_slash place.Plain byte = byte == 46 || byte == 47
 may_be_slash place.Escaped byte = nat_le 65 byte && nat_le byte 90
@@ -75,7 +80,7 @@ may_hold_slash pattern = may_hold_slash_at false place.Plain pattern
 abbrev pub is_group : ℕ → Bool
 is_group byte = nat_le 49 byte && nat_le byte 57
 
--- whether a form `\1` to `\9` stands in what is left of a word, where `escaped` says whether a backslash stands before it
+-- whether a form `\1` to `\9` stands in what is left of a word; `escaped` says whether a backslash stands before that
 abbrev pub names_group_behind : Bool → List ℕ → Bool
 names_group_behind escaped [] = false
 names_group_behind escaped (byte ∷ bytes) = escaped && is_group byte || names_group_behind (byte == 92) bytes
@@ -154,7 +159,8 @@ host_warnings path number host = if has_name host then OfLine path number concer
 -- in a line, if it is an ALLOW or an ACCEPT line
 abbrev pub rule_warnings : List ℕ → ℕ → Option RuleWords → List Warning
 rule_warnings path number None = []
-rule_warnings path number (Some rule) = feedtype_warnings path number rule.feedtype ++ host_warnings path number rule.host
+rule_warnings path number (Some rule) =
+    feedtype_warnings path number rule.feedtype ++ host_warnings path number rule.host
 
 -- at a REQUEST line, where so many stand before it
 abbrev pub request_warnings : List ℕ → ℕ → ℕ → List Warning

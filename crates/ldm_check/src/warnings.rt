@@ -160,7 +160,8 @@ impl Warnings {
         conf: &Conf,
     ) -> Result<(), AllocError>
         ensures { OnOk result (warning_views self.new.list.items
-            ≡ warning_views self.old.list.items ++ asking_warnings path.now line.now.number self.old.requests conf.now.requests.items) }
+            ≡ warning_views self.old.list.items ++ asking_warnings path.now line.now.number self.old.requests
+            conf.now.requests.items) }
     {
         let [_, ..] = conf.requests.as_slice() else {
             return Ok(());
