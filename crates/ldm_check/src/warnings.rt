@@ -1,9 +1,15 @@
 //! Warnings: of what is no fault, and yet may not do what was meant.
 
 ghost use Rattle.std.specs.Prelude.{◌≡◌, ◌∷◌, ◌++◌, ◌≤◌, [], drop, length, OnOk};
+ghost use Rattle.std.specs.Str.{str_eq_ignore_ascii_case};
+ghost use Rattle.ldm_conf.specs.Lines.{without_return};
+ghost use Rattle.ldm_text.specs.Words.{words_of};
 ghost use Rattle.ldm_text.specs.declared.limits.TheConstants.{LONGEST_CONFIGURATION};
-ghost use Rattle.ldm_check.specs.Concerns.{behind_blanks, end_warnings, entry_warnings, field_of, is_group};
-ghost use Rattle.ldm_check.specs.Concerns.{names_group, request_warnings, second_field};
+ghost use Rattle.ldm_text.specs.declared.words.Comments.TheVariants.{Hash};
+ghost use Rattle.ldm_check.specs.Concerns.{asking_warnings, behind_blanks, end_warnings, entry_warnings, field_of, is_group};
+ghost use Rattle.ldm_check.specs.Concerns.{by_keyword, feedtype_warnings, host_warnings, is_none, names_group};
+ghost use Rattle.ldm_check.specs.Concerns.{request_warnings, rule_view, rule_warnings, rule_words, second_field};
+ghost use Rattle.ldm_check.specs.Concerns.{word_warnings};
 ghost use Rattle.ldm_check.specs.Programs.{LooksFor};
 ghost use Rattle.ldm_check.specs.Warnings.{OfLine, warning_views};
 
@@ -79,7 +85,12 @@ impl Warnings {
         path: &str,
         line: &Line<'_>,
         conf: &Conf,
-    ) -> Result<(), OutOfMemory> {
+    ) -> Result<(), OutOfMemory>
+        ensures { OnOk result (warning_views self.new.list.items
+            ≡ warning_views self.old.list.items ++ (rule_warnings path.now line.now.number
+            (rule_words (words_of Hash (without_return line.now.text.now)).words)
+            ++ asking_warnings path.now line.now.number self.old.requests conf.now.requests.items)) }
+    {
         self.look_at_rule(alloc, path, line)?;
         self.look_at_requests(alloc, path, line, conf)?;
         self.note_commands(alloc, path, line, conf)?;
@@ -90,21 +101,52 @@ impl Warnings {
     }
 
     // Warns of an ALLOW or an ACCEPT line that meets nobody.
-    fn look_at_rule(
-        &mut self,
-        alloc: Global,
-        path: &str,
-        line: &Line<'_>,
-    ) -> Result<(), AllocError> {
+    fn look_at_rule(&mut self, alloc: Global, path: &str, line: &Line<'_>) -> Result<(), AllocError>
+        ensures warned { OnOk result (warning_views self.new.list.items
+            ≡ warning_views self.old.list.items ++ rule_warnings path.now line.now.number
+            (rule_words (words_of Hash (without_return line.now.text.now)).words)) }
+        ensures requests { self.new.requests ≡ self.old.requests }
+    {
         let Some(rule) = rule_of(without_return(line.text)) else {
             return Ok(());
         };
         let number = u64::from(line.number);
-        if is_none(rule.feedtype) {
-            self.warn(alloc, path, number, Concern::NoMember)?;
+        self.look_at_feedtype(alloc, path, number, rule.feedtype)?;
+        self.look_at_host(alloc, path, number, rule.host)
+    }
+
+    // Warns of a feedtype without members.
+    fn look_at_feedtype(
+        &mut self,
+        alloc: Global,
+        path: &str,
+        number: u64,
+        feedtype: &[u8],
+    ) -> Result<(), AllocError>
+        ensures warned { OnOk result (warning_views self.new.list.items
+            ≡ warning_views self.old.list.items ++ feedtype_warnings path.now number feedtype.now) }
+        ensures requests { self.new.requests ≡ self.old.requests }
+    {
+        if is_none(feedtype) {
+            return self.warn(alloc, path, number, Concern::NoMember);
         }
-        if has_name(rule.host) {
-            self.warn(alloc, path, number, Concern::HasName)?;
+        Ok(())
+    }
+
+    // Warns of a pattern of hosts that has letters of a name.
+    fn look_at_host(
+        &mut self,
+        alloc: Global,
+        path: &str,
+        number: u64,
+        host: &[u8],
+    ) -> Result<(), AllocError>
+        ensures warned { OnOk result (warning_views self.new.list.items
+            ≡ warning_views self.old.list.items ++ host_warnings path.now number host.now) }
+        ensures requests { self.new.requests ≡ self.old.requests }
+    {
+        if has_name(host) {
+            return self.warn(alloc, path, number, Concern::HasName);
         }
         Ok(())
     }
@@ -116,10 +158,14 @@ impl Warnings {
         path: &str,
         line: &Line<'_>,
         conf: &Conf,
-    ) -> Result<(), AllocError> {
-        if conf.requests.is_empty() {
+    ) -> Result<(), AllocError>
+        ensures { OnOk result (warning_views self.new.list.items
+            ≡ warning_views self.old.list.items ++ asking_warnings path.now line.now.number self.old.requests
+            conf.now.requests.items) }
+    {
+        let [_, ..] = conf.requests.as_slice() else {
             return Ok(());
-        }
+        };
         let before = self.requests;
         self.requests = before.saturating_add(1);
         self.look_at_request(alloc, path, u64::from(line.number), before)
@@ -152,7 +198,9 @@ impl Warnings {
         path: &str,
         line: &Line<'_>,
         conf: &Conf,
-    ) -> Result<(), AllocError> {
+    ) -> Result<(), AllocError>
+        ensures { self.new.list ≡ self.old.list }
+    {
         for command in &conf.commands {
             if let [program, ..] = command.words.as_slice() {
                 self.programs
@@ -205,13 +253,29 @@ impl Warnings {
             return Ok(());
         };
         let word = first.bytes();
-        if names_group(word) && may_hold_slash(second_field(line)) {
-            self.warn(alloc, path, number, Concern::GroupInPath)?;
-        }
+        self.look_at_word(alloc, path, number, line, word)?;
         match entry.action() {
             ActionKind::Pipe | ActionKind::Exec => self.programs.note(alloc, path, number, word),
             ActionKind::File | ActionKind::StdioFile | ActionKind::Noop => Ok(()),
         }
+    }
+
+    // Warns of a path or a program that has a group of the pattern in that line, where the group may hold a slash.
+    fn look_at_word(
+        &mut self,
+        alloc: Global,
+        path: &str,
+        number: u64,
+        line: &[u8],
+        word: &[u8],
+    ) -> Result<(), AllocError>
+        ensures { OnOk result (warning_views self.new.list.items
+            ≡ warning_views self.old.list.items ++ word_warnings path.now number line.now word.now) }
+    {
+        if names_group(word) && may_hold_slash(second_field(line)) {
+            return self.warn(alloc, path, number, Concern::GroupInPath);
+        }
+        Ok(())
     }
 
     /// The same of a text whose entries stand before a faulty one.
@@ -254,8 +318,9 @@ impl Warnings {
         number: u64,
         concern: Concern,
     ) -> Result<(), AllocError>
-        ensures { OnOk result (warning_views self.new.list.items
+        ensures warned { OnOk result (warning_views self.new.list.items
             ≡ warning_views self.old.list.items ++ OfLine path.now number concern ∷ []) }
+        ensures requests { self.new.requests ≡ self.old.requests }
     {
         let path = String::from_str(alloc, path)?;
         self.list.push(Warning::OfLine(path, number, concern))?;
@@ -288,31 +353,55 @@ impl Left<'_> {
 
 // The words of an ALLOW or an ACCEPT line that say whom it meets.
 #[derive(Drop)]
-struct RuleWords<'a> {
-    feedtype: &'a [u8],
-    host: &'a [u8],
+pub(crate) struct RuleWords<'a> {
+    pub feedtype: &'a [u8],
+    pub host: &'a [u8],
 }
 
 // The words of a line, if it is an ALLOW or an ACCEPT line.
-fn rule_of(line: &[u8]) -> Option<RuleWords<'_>> {
+fn rule_of(line: &[u8]) -> Option<RuleWords<'_>>
+    ensures { rule_view result ≡ rule_words (words_of Hash line.entry.now).words }
+{
     let (keyword, rest) = take_word(line)?;
     let (feedtype, rest) = take_word(rest)?;
     let (word, rest) = take_word(rest)?;
-    if keyword.eq_ignore_ascii_case(b"ALLOW") {
+    by_keyword(keyword, feedtype, word, rest)
+}
+
+// By the keyword, the two words behind it, and what stands behind them.
+fn by_keyword<'a>(
+    keyword: &[u8],
+    feedtype: &'a [u8],
+    word: &'a [u8],
+    rest: &'a [u8],
+) -> Option<RuleWords<'a>>
+    ensures { rule_view result
+        ≡ by_keyword keyword.now feedtype.entry.now word.entry.now (words_of Hash rest.entry.now).words }
+{
+    if is_named(b"ALLOW", keyword) {
         return Some(RuleWords {
             feedtype,
             host: word,
         });
     }
-    if keyword.eq_ignore_ascii_case(b"ACCEPT") {
+    if is_named(b"ACCEPT", keyword) {
         let (host, _) = take_word(rest)?;
         return Some(RuleWords { feedtype, host });
     }
     None
 }
 
+// Whether a word is that name, in letters of either case.
+fn is_named(name: &[u8], word: &[u8]) -> bool
+    ensures { result ≡ str_eq_ignore_ascii_case name.now word.now }
+{
+    name.eq_ignore_ascii_case(word)
+}
+
 // Whether a feedtype has no member, as NONE.
-fn is_none(feedtype: &[u8]) -> bool {
+fn is_none(feedtype: &[u8]) -> bool
+    ensures { result ≡ is_none feedtype.now }
+{
     match read_feed(feedtype) {
         Ok(feed) => feed.0 == 0,
         Err(_) => false,
