@@ -86,16 +86,21 @@ class Broker:
         except (OSError, ValueError) as why:
             self.client = None
             raise Unreachable(getattr(why, "strerror", None) or str(why)) from None
-        if self.until("answer") != "accepted":
+        self.until("answer")
+        if self.answer != "accepted":
             self.drop()
             raise Unreachable(self.answer)
         if self.filters:
-            self.client.subscribe([(topic, 1) for topic in self.filters])
-            for topic, reason in zip(self.filters, self.until("granted")):
-                if has_failed(reason):
-                    self.drop()
-                    raise Unreachable(f"the broker lets nobody subscribe to {topic} here")
+            self.subscribe()
         self.pause = 0
+
+    def subscribe(self):
+        self.client.subscribe([(topic, 1) for topic in self.filters])
+        self.until("granted")
+        for topic, reason in zip(self.filters, self.granted):
+            if has_failed(reason):
+                self.drop()
+                raise Unreachable(f"it refuses the subscription to {topic}")
 
     def new_client(self):
         client = make_client(self.settings, self.is_clean)
@@ -121,7 +126,7 @@ class Broker:
         self.granted = reasons
 
     def until(self, name):
-        """The answer of the broker, as soon as it is here."""
+        """Waits for an answer of the broker."""
         last = time.monotonic() + PATIENCE
         while getattr(self, name) is None:
             if time.monotonic() > last:
@@ -131,9 +136,8 @@ class Broker:
                 self.turn(0.1)
             except Unreachable:
                 # the connection ends behind a refusal, which says more
-                if getattr(self, name) is None:
+                if self.answer in (None, "accepted"):
                     raise
-        return getattr(self, name)
 
     def turn(self, seconds):
         """Hears and sends what there is, within so many seconds; raises Unreachable where the connection broke."""

@@ -41,9 +41,13 @@ def demand(holds, reason):
         raise Wrong(reason)
 
 
+def check_size(payload):
+    demand(len(payload) <= GREATEST_MESSAGE, f"it has {len(payload)} bytes, more than {GREATEST_MESSAGE}")
+
+
 def read(payload):
     """The notification of these bytes; raises Wrong."""
-    demand(len(payload) <= GREATEST_MESSAGE, f"it has {len(payload)} bytes, more than {GREATEST_MESSAGE}")
+    check_size(payload)
     try:
         given = json.loads(payload.decode())
     except (ValueError, RecursionError):

@@ -108,8 +108,13 @@ class Receiver:
             pass
 
     def keep(self, topic, payload):
-        # the broker is told behind the end of this, and not where it raises
-        self.waiting.put(self.inbox.add(topic, payload))
+        try:
+            notification.check_size(payload)
+        except Wrong as why:
+            self.log.tell(f"not taken from {topic}: {why}")
+        else:
+            # the broker is told behind the end of this, and not where it raises
+            self.waiting.put(self.inbox.add(topic, payload))
 
     def clear(self):
         if time.monotonic() >= self.next_clearing:
@@ -232,10 +237,10 @@ class Receiver:
                 self.log.detail(f"{answer}: {ident}")
                 return True
             denied += done.returncode == DENIED
-            # a node that is busy declines too
-            is_passing = done.returncode in PASSING or answer == "locked" or 0 < denied < self.settings.fetch.tries
             reason = " ".join([done.stdout.strip(), *done.stderr.split("\n")[:1]]).strip()
-            if not is_passing:
+            # a node that is busy declines too
+            is_busy = done.returncode == DENIED and denied < self.settings.fetch.tries
+            if done.returncode not in PASSING and answer != "locked" and not is_busy:
                 raise Wrong(f"pqinsert ends with {done.returncode}, {reason}")
             if not is_told:
                 self.log.tell(f"{found.data_id} waits for the node: {reason}")
