@@ -114,10 +114,11 @@ count_files() {
 # ends with a return to the beginning of its line, so that the next line of the program stands in its place.
 watch_program() {
     help_seconds=0
+    help_file=$(readlink -f "$help_program")
     while sleep 1 && kill -0 $$ 2>/dev/null; do
         help_seconds=$((help_seconds + 1))
         for help_child in $(ps -o pid= --ppid $$ 2>/dev/null); do
-            [ "$(readlink "/proc/$help_child/exe" 2>/dev/null)" = "$(readlink -f "$help_program")" ] || continue
+            [ "$(readlink "/proc/$help_child/exe" 2>/dev/null)" = "$help_file" ] || continue
             while read -r help_count help_bytes; do
                 case $1$help_count in
                 pqinsertrchar:)

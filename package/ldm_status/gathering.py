@@ -43,8 +43,10 @@ class Told:
 
     def journal_faults(self):
         """What the log tells of the node's journal since the node began, and when: a node that was started anew has opened it again."""
+        # both times are of whole seconds of clocks that may differ a little
+        since = self.began - 2 if self.began else 0
         for line, (_, last) in self.log.journal.items():
-            if line.startswith("journal") and not (last and self.began and last < self.began):
+            if line.startswith("journal") and (last is None or last >= since):
                 yield line, last
 
 
