@@ -43,7 +43,6 @@ use Rattle.ldm_pqact.specs.declared.limits.TheConstants as acting
 use Rattle.ldm_gather.specs.declared.limits.TheConstants as gathers
 use Rattle.ldm_gather.specs.declared.cat_limits.TheConstants as cats
 use Rattle.ldm_tools.specs.declared.limits.TheConstants as inserts
-use Rattle.ldm_check.specs.declared.lines.TheConstants as faults
 use Rattle.ldm_check.specs.declared.command.TheConstants as checks
 use Rattle.ldm_pqact_command.specs.declared.state.TheConstants as states
 use Rattle.ldm_wmo.specs.declared.write.TheConstants as bulletins
@@ -143,7 +142,6 @@ pub record CommandLimits : Type 0 where
   pub pqcat_piece : cats.LARGEST_PIECE ≡ 16384
   pub largest_file : inserts.LARGEST_FILE ≡ 1073741824
   pub longest_reason : reasons.LONGEST_REASON ≡ 200
-  pub longest_shown : faults.LONGEST_SHOWN ≡ 100
   pub faulty : checks.FAULTY ≡ 65
   pub longest_state : states.LONGEST_STATE ≡ 33
   pub largest_seqno : bulletins.LARGEST_SEQNO ≡ 99999
