@@ -1,7 +1,7 @@
 #!/usr/bin/env python3
 """Looks at how long programs wait for a peer that does not do its part, and at their other manners towards the system.
 
-The limits are those of the table of times in docs/node.md. Cases that wait for one run side by side, so that all take about as long as
+The limits are the times in docs/node.md. Cases that wait for one run side by side, so that all take about as long as
 the longest, 120 seconds. Each program that was started is ended at the end.
 
 Called as: tests/links.py [PROGRAM [CASE ..]]. The program is that of tests/program.py, where none is named; with names of cases only these
