@@ -600,6 +600,24 @@ def files_that_may_not_grow(place):
     return "72 and 75"
 
 
+def texts_that_move_a_terminal(place):
+    """Control characters above the ASCII ones, and characters that turn the direction of a line, in an ident and in a path: a line of the
+    log has a question mark for each, and other letters as they are."""
+    ident = "SAUS\x1b\u009b31m\u202e\u00e9\u2066.\u061c\u0099"
+    shown = "SAUS??31m?\u00e9?.??"
+    node = place.node("ALLOW ANY .*\nACCEPT ANY .* .*\n")
+    node.put_all([Product(ident.encode(), b"a body")])
+    (place.folder / "folder").mkdir()
+    place.file("entries", "ANY\t^SAUS\tFILE\tfolder\n")
+    cases = [
+        (["pqact", "-c", 1, "entries", node.at], f"ldm: {shown}: folder: Is a directory\nldm: store fault\n"),
+        (["pqact", ident, node.at], f"ldm: {shown}: No such file or directory\nldm: store fault\n"),
+    ]
+    for words, told in cases:
+        expect(place.run(*words), (72, b"", told.encode()), f"{words}")
+    return "72, with a question mark for each"
+
+
 CASES = [
     are_silent,
     say_a_byte_at_a_time,
@@ -621,6 +639,7 @@ CASES = [
     logs_that_are_closed,
     files_that_are_none,
     files_that_may_not_grow,
+    texts_that_move_a_terminal,
 ]
 
 
