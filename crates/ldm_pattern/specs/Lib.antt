@@ -6,3 +6,4 @@ pub mod Parts
 pub mod Refusals
 pub mod BoundedView
 pub mod BoundedMatcherView
+pub mod KeptView

@@ -15,8 +15,8 @@ use std::marker::Model;
 /// bytes.
 #[derive(Drop)]
 pub struct BoundedPattern {
-    source: Vec<u8>,
-    dfa: Dfa,
+    pub(crate) source: Vec<u8>,
+    pub(crate) dfa: Dfa,
 }
 
 impl Model for BoundedPattern {

@@ -5,10 +5,12 @@
 
 mod bounded;
 mod groups;
+mod kept;
 mod matcher;
 mod pattern;
 
 pub use bounded::{BoundedMatcher, BoundedPattern};
 pub use groups::{GroupNo, Groups};
+pub use kept::KeptMatcher;
 pub use matcher::Matcher;
 pub use pattern::{Pattern, Refusal};

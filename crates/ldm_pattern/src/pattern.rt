@@ -103,6 +103,13 @@ impl Pattern {
         Ok(())
     }
 
+    /// Its bytes.
+    pub fn source(&self) -> &[u8]
+        ensures { result.now ≡ self.now }
+    {
+        self.regex.as_str().as_bytes()
+    }
+
     /// What searches for it in many texts.
     pub fn matcher(&self, alloc: Global) -> Result<Matcher<'_>, OutOfMemory>
         ensures { IfOk result (λ matcher. matcher ≡ self.now) }
