@@ -88,5 +88,7 @@ tell() {
     local took
     took=$("${@:4}")
     awk -v what="$1" -v size="$2" -v count="$3" -v took="$took" \
-        'BEGIN { printf "%-24s %10d bytes %9d products %12.0f a second %9.1f MB/s\n", what, size, count, count / took, size * count / took / 1e6 }'
+        'BEGIN {
+            printf "%-24s %10d bytes %9d products %12.0f a second %9.1f MB/s\n", what, size, count, count / took, size * count / took / 1e6
+        }'
 }

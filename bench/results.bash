@@ -22,7 +22,9 @@ record() {
 }
 
 # the processors, the memory and the system, and how many programs wanted to run as the script began
-machine="$(nproc) processors, $(awk -F ': *' '/^model name/ { print $2; exit }' /proc/cpuinfo), $(awk '/^MemTotal:/ { printf "%.0f", $2 / 1048576 }' /proc/meminfo) GiB, Linux $(uname -r | cut -d - -f 1), load $(cut -d ' ' -f 1 /proc/loadavg)"
+machine="$(nproc) processors, $(awk -F ': *' '/^model name/ { print $2; exit }' /proc/cpuinfo)"
+machine+=", $(awk '/^MemTotal:/ { printf "%.0f", $2 / 1048576 }' /proc/meminfo) GiB"
+machine+=", Linux $(uname -r | cut -d - -f 1), load $(cut -d ' ' -f 1 /proc/loadavg)"
 
 write_results() {
     [[ -n $results ]] || return 0

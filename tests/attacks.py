@@ -33,7 +33,7 @@ from peers import (
     QSTAT, TOO_BIG,
     Peer, Product, Wrong, call, expect, number, product_class, reply,
 )  # fmt: skip
-from program import LEFT_OUT, leave_out
+from program import LEFT_OUT, TOP, leave_out
 
 # The addresses of a network of the script's own.
 STRANGER, OTHER = "10.99.0.2", "10.99.0.3"
@@ -582,6 +582,42 @@ def files_that_are_none(place):
     return f"72, within {time.monotonic() - begun:.1f} s"
 
 
+def files_that_may_not_grow(place):
+    """Where the system limits how large a file gets, a program that `ldm` runs ends by its status, and by no signal."""
+    node = place.node("ALLOW ANY .*\nACCEPT ANY .* .*\n")
+    node.put_all([Product(b"large", bytes(MIB))])
+    place.file("entries", "ANY\t^large$\tFILE\tlarge\n")
+    place.file("script", "0 stat\n" * 5_000)
+    cases = [
+        (["pqact", "-c", 1, "entries", node.at], 72, b"ldm: large: large: File too large\nldm: store fault\n"),
+        (["play", 168, 10], 75, b"ldm: sink fault\n"),
+    ]
+    for words, status, told in cases:
+        command = ["sh", "-c", '. "$0"; ulimit -f 8; run_program "$@" >output', TOP / "docs/help/help.sh", nodes.PROGRAM, *map(str, words)]
+        with open(place.folder / "script", "rb") as source:
+            ran = subprocess.run(command, stdin=source, capture_output=True, timeout=30, cwd=place.folder)
+        expect((ran.returncode, ran.stderr), (status, told), f"{words} under a limit of 8 blocks")
+    return "72 and 75"
+
+
+def texts_that_move_a_terminal(place):
+    """Control characters above the ASCII ones, and characters that turn the direction of a line, in an ident and in a path: a line of the
+    log has a question mark for each, and other letters as they are."""
+    ident = "SAUS\x1b\u009b31m\u202e\u00e9\u2066.\u061c\u0099"
+    shown = "SAUS??31m?\u00e9?.??"
+    node = place.node("ALLOW ANY .*\nACCEPT ANY .* .*\n")
+    node.put_all([Product(ident.encode(), b"a body")])
+    (place.folder / "folder").mkdir()
+    place.file("entries", "ANY\t^SAUS\tFILE\tfolder\n")
+    cases = [
+        (["pqact", "-c", 1, "entries", node.at], f"ldm: {shown}: folder: Is a directory\nldm: store fault\n"),
+        (["pqact", ident, node.at], f"ldm: {shown}: No such file or directory\nldm: store fault\n"),
+    ]
+    for words, told in cases:
+        expect(place.run(*words), (72, b"", told.encode()), f"{words}")
+    return "72, with a question mark for each"
+
+
 CASES = [
     are_silent,
     say_a_byte_at_a_time,
@@ -602,6 +638,8 @@ CASES = [
     outputs_that_are_closed,
     logs_that_are_closed,
     files_that_are_none,
+    files_that_may_not_grow,
+    texts_that_move_a_terminal,
 ]
 
 

@@ -97,7 +97,8 @@ def check(seed, folder):
             last = int(fields[2])
             found[at] = " ".join(["product", fields[1], "..", *fields[3:]])
     if (status, log, found) != (0, "", wanted):
-        sys.exit(f"chain: of seed {seed}, {words} over\n{script}ends with {status} {log!r} and writes\n{output}in place of\n" + "\n".join(wanted))
+        ended = f"{words} over\n{script}ends with {status} {log!r} and writes\n{output}in place of\n"
+        sys.exit(f"chain: of seed {seed}, {ended}" + "\n".join(wanted))
     return sum(line.startswith("product") for line in found), len(found)
 
 

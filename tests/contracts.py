@@ -230,7 +230,8 @@ class SpecFile:
                 continue
             declares = DECLARES.match(code.strip()) if indent == inner[-1][0] else None
             if declares:
-                kind = "record" if "record" in code.split(declares[1])[0] else "data" if "data" in code.split(declares[1])[0] else "definition"
+                before = code.split(declares[1])[0]
+                kind = next((it for it in ("record", "data") if it in before), "definition")
                 current = Definition(self, declares[1], kind, comment or number)
                 current.around = inner[-1][1]
                 self.definitions[current.name] = current
@@ -440,7 +441,8 @@ def fields_of(text, base, definition):
 # ---- the clauses of the code
 
 RUST = re.compile(
-    r'//[^\n]*|/\*.*?\*/|b?"(?:[^"\\]|\\.)*"|b?\'(?:[^\'\\\n]|\\[^\n]{1,8}?)\'|«\w+»|[A-Za-z_][\w]*\'*|\'[a-z_]\w*|\d\w*|[(){}\[\];,.]|->|=>|::|[^\s\w(){}\[\];,."\'/]+|/|\S',
+    r'//[^\n]*|/\*.*?\*/|b?"(?:[^"\\]|\\.)*"|b?\'(?:[^\'\\\n]|\\[^\n]{1,8}?)\'|«\w+»|[A-Za-z_][\w]*\'*|\'[a-z_]\w*|\d\w*'
+    r'|[(){}\[\];,.]|->|=>|::|[^\s\w(){}\[\];,."\'/]+|/|\S',
     re.S,
 )
 

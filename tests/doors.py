@@ -58,13 +58,13 @@ def make_addresses():
 
 
 def go_into_own_network():
-    try:
-        subprocess.run(["unshare", "-rn", "true"], check=True, stderr=subprocess.DEVNULL)
-    except (OSError, subprocess.CalledProcessError):
-        leave_out("a network of its own", "the doors of a node")
-        sys.exit(LEFT_OUT)
-    os.environ[IN_OWN_NETWORK] = "1"
-    os.execvp("unshare", ["unshare", "-rn", sys.executable, *sys.argv])
+    for way in (["unshare", "-rn"], ["unshare", "-n"]):
+        with contextlib.suppress(OSError, subprocess.CalledProcessError):
+            subprocess.run([*way, "true"], check=True, stderr=subprocess.DEVNULL)
+            os.environ[IN_OWN_NETWORK] = "1"
+            os.execvp(way[0], [*way, sys.executable, *sys.argv])
+    leave_out("a network of its own", "the doors of a node")
+    sys.exit(LEFT_OUT)
 
 
 # A node and who comes to it

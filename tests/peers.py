@@ -50,10 +50,6 @@ def number(value):
     return struct.pack(">I", value)
 
 
-def long_number(value):
-    return struct.pack(">Q", value)
-
-
 def padded(text):
     return text + bytes(-len(text) % 4)
 

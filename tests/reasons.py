@@ -59,6 +59,7 @@ CONF = {
     "far.conf": f"{OPEN}REQUEST ANY .* host:99999\n",
     "brackets.conf": f"{OPEN}REQUEST ANY .* [::1]:388\n",
     "spaces": "IDS ^S FILE data\n",
+    "star": "IDS\t*\tNOOP\n",
     "some spaces": "IDS\t^S\tFILE    -close  data\n",
     "words": "no bulletin is here\n",
     "heading": "SAUS44 KWBC 010000\r\r\nMETAR KDCA=\r\r\n",
@@ -277,19 +278,32 @@ def sizes(place):
 
 
 def rules(place):
-    """Lines that are read, and mean something else than what was wanted: `check` is silent of some."""
-    few = "too few fields, too many, or one of a wrong form"
+    """Lines that are read, and mean something else than what was wanted, and the likeliest mistakes of lines that are not read."""
+    slash = "warning: the host pattern has a slash, and no address has one: 10.1.0.0/16 is ^10[.]1[.]"
+    order = "warning: the first pattern is one of hosts, and the last is none: ACCEPT feedtype pattern hostpattern"
+    brackets = "warning: the host is in brackets, and no address is: [::1]:388 is ::1:388"
     cases = [
-        (["cidr.conf"], 0, ""),
-        (["order.conf"], 0, ""),
-        (["brackets.conf"], 0, ""),
-        (["star.conf"], 65, "star.conf:3: a pattern that does not read: ALLOW ANY *\n"),
-        (["far.conf"], 65, "far.conf:3: too few words, too many, or one of a wrong form: REQUEST ANY .* host:99999\n"),
-        (["-p", "spaces"], 65, f"spaces:1: {few}: IDS ^S FILE data\n"),
-        (["-p", "some spaces"], 65, "some spaces:1: no such action: IDS?^S?FILE    -close  data\n"),
-    ]
+        (["cidr.conf"], 0, f"cidr.conf:3: {slash}\n"),
+        (["order.conf"], 0, f"order.conf:3: {order}\n"),
+        (["brackets.conf"], 0, f"brackets.conf:3: {brackets}\n"),
+        (["star.conf"], 65, "star.conf:3: a pattern that does not read: for any text write .*: ALLOW ANY *\n"),
+        (["far.conf"], 65, "far.conf:3: a port above 65535: REQUEST ANY .* host:99999\n"),
+        (["-p", "spaces"], 65, "spaces:1: too few fields: tabs part them, and here is none: IDS ^S FILE data\n"),
+        (["-p", "some spaces"], 65,
+         "some spaces:1: no such action: a tab ends its name, and no space: IDS?^S?FILE    -close  data\n"),
+        (["-p", "star"], 65, "star:1: a pattern that does not read: for any text write .*: IDS?*?NOOP\n"),
+    ]  # fmt: skip
     for words, status, said in cases:
         expect(place.run("check", *words), (status, said.encode(), b""), f"check {words}")
+    # a node and `pqact` say it too
+    at = ["node", "-p", free_port()]
+    cases = [
+        ([*at, "star.conf"], "star.conf:3: a pattern that does not read: for any text write .*: ALLOW ANY *", "conf file 0 line 3 kind 4"),
+        ([*at, "far.conf"], "far.conf:3: a port above 65535: REQUEST ANY .* host:99999", "conf file 0 line 3 kind 2"),
+        (["pqact", "spaces", f"{HOST}:1"], "spaces:1: too few fields: tabs part them, and here is none: IDS ^S FILE data", "pqact line 1 kind 1"),
+    ]
+    for words, why, kind in cases:
+        expect(place.run(*words), (65, b"", lines(why, f"bad {kind}")), f"{words}")
     expect(place.run("pqmon", "-q", "[::1]:388").status, 69, "a host in brackets")
 
 

@@ -49,6 +49,8 @@ run_beside() {
 run_program() {
     help_program=$1
     shift
+    # a write behind the limit of the size of a file fails then, and does not end the program by a signal
+    trap '' XFSZ
     is_in_front || exec "$help_program" "$@"
     begin_progress "$@"
     "$help_program" "$@"

@@ -24,7 +24,7 @@ KEPT = 25 * HOUR
 
 
 class Found:
-    """What the notices of a node come to: of hours the totals, as pqstats has them; of feeds and origins what came since the last sample."""
+    """What the notices of a node come to: totals of hours, as pqstats has them; of feeds and origins what came since the last sample."""
 
     def __init__(self, last_of):
         self.totals = {}

@@ -110,7 +110,9 @@ def connection(told, request, process):
     host = told.log.hosts.get(request.host) if told.log else None
     if host is not None and host.last and (process or host.is_away(told.now)):
         ago = f" {age_text(told.now - host.when)} ago" if host.when else ""
-        return False, f"not reached{', last try' + ago if ago else ''}" if host.last == reading.UNREACHED else f"its last session{ago}: {host.last}"
+        if host.last == reading.UNREACHED:
+            return False, f"not reached{', last try' + ago if ago else ''}"
+        return False, f"its last session{ago}: {host.last}"
     if process:
         return False, "not connected"
     if told.log is None:

@@ -8,7 +8,7 @@ import os
 import re
 import shutil
 
-from .common import Failed, make_folder
+from .common import make_folder
 from .message import GREATEST_CONTENT, Product
 
 # The name of a body: a second, and the number of a process.

@@ -93,7 +93,8 @@ EachAlone =
 
 -- the words of a fault
 abbrev pub IsFaultWords : List ℕ → Type 0
-IsFaultWords words = ((kind : ConfKind) × (words ≡ conf_words kind)) ⊎ ((kind : PqactKind) × (words ≡ pqact_words kind))
+IsFaultWords words =
+    ((kind : ConfKind) × (line : List ℕ) × (words ≡ conf_words kind line)) ⊎ ((kind : PqactKind) × (line : List ℕ) × (words ≡ pqact_words kind line))
 
 -- A warning of a line is not spelled as a fault of that line, and one of a whole file not as a fault of that file.
 abbrev pub IsNoFault : Warning → Type 0

@@ -121,7 +121,7 @@ impl Search {
             &mut self.faults,
             path.as_bytes(),
             u64::from(line.number),
-            words_of_conf(kind),
+            words_of_conf(kind, without_return(line.text)),
             without_return(line.text),
         )
     }

@@ -65,7 +65,7 @@ impl Search {
                 put_file(
                     &mut self.faults,
                     path.as_bytes(),
-                    words_of_conf(ConfKind::Long),
+                    words_of_conf(ConfKind::Long, b""),
                 )?;
                 Ok(())
             }

@@ -66,7 +66,7 @@ impl Search {
             &mut self.faults,
             path.as_bytes(),
             number,
-            words_of_pqact(kind),
+            words_of_pqact(kind, without_return(line)),
             without_return(line),
         )
     }

@@ -1,4 +1,5 @@
 pub mod ConfFiles
+pub mod Mistakes
 pub mod PqactFiles
 pub mod Texts
 pub mod Words

@@ -5,6 +5,7 @@ pub mod PushLemmas
 pub mod RecordLemmas
 pub mod AppendLemmas
 pub mod CommitLemmas
+pub mod HeadLemmas
 pub mod TurnLemmas
 pub mod FillLemmas
 pub mod ReadLemmas
@@ -18,3 +19,4 @@ pub mod MakeLemmas
 pub mod NextLemmas
 pub mod OpenWhole
 pub mod EventLemmas
+pub mod DamageLemmas

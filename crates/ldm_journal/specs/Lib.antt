@@ -10,3 +10,4 @@ pub mod Making
 pub mod Opening
 pub mod Runs
 pub mod Joining
+pub mod Damage
