@@ -9,3 +9,4 @@ pub mod Choices
 pub mod Nearer
 pub mod ElseEntries
 pub mod DaysAsked
+pub mod Keeping

@@ -8,3 +8,5 @@ pub mod Views
 pub mod Reading
 pub mod Choosing
 pub mod Days
+pub mod Keeping
+pub mod ChooserView
