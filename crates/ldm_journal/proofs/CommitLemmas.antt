@@ -52,10 +52,10 @@ put_twice head pad long rest blank =
     let xs = head ++ pad in
     let whole : length xs ≤ 3624 = omega (arith, length-append head pad, long, rest) in
     ap (λ (l : List ℕ). l ++ (head ++ drop (HEAD + SUM) (drop COPY xs)))
-        (take-add 1576 472 xs
-        ∙ ap (λ (l : List ℕ). l ++ take 472 (drop 1576 xs)) (take_at head pad 1576 long)
-        ∙ ap (λ (l : List ℕ). head ++ take 472 l) (drop_at head pad 1576 long)
-        ∙ ap (λ (l : List ℕ). head ++ l) blank)
+    (take-add 1576 472 xs
+    ∙ ap (λ (l : List ℕ). l ++ take 472 (drop 1576 xs)) (take_at head pad 1576 long)
+    ∙ ap (λ (l : List ℕ). head ++ take 472 l) (drop_at head pad 1576 long)
+    ∙ ap (λ (l : List ℕ). head ++ l) blank)
     ∙ ap (λ (l : List ℕ). (head ++ zeros 472) ++ (head ++ l)) (drop-drop 1576 2048 xs ∙ drop_all 3624 xs whole)
     ∙ ap (λ (l : List ℕ). (head ++ zeros 472) ++ l) (append-nil head)
     ∙ append_assoc head (zeros 472) head

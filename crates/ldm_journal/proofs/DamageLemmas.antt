@@ -148,10 +148,10 @@ byte_spoilt ring kept note before after holds spoilt still =
     elim (two_ways (is_whole at before)) [
       | inl whole ↦
           kept_by ring kept note before after at at (head_first odd before whole)
-              (ap (λ (o : Bool). head_of o after) still ∙ head_first odd after (sym there ∙ whole)) first spoilt.long out holds
+          (ap (λ (o : Bool). head_of o after) still ∙ head_first odd after (sym there ∙ whole)) first spoilt.long out holds
       | inr bad ↦
           kept_by ring kept note before after (at + COPY) (at + COPY) (head_second odd before bad)
-              (ap (λ (o : Bool). head_of o after) still ∙ head_second odd after (sym there ∙ bad)) second spoilt.long out holds
+          (ap (λ (o : Bool). head_of o after) still ∙ head_second odd after (sym there ∙ bad)) second spoilt.long out holds
     ]
 
 -- a flipped bit selects the same head

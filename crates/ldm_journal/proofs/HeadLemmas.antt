@@ -149,7 +149,7 @@ module _ (odd : Bool) (next : Marks) (noted : length next.note ≡ NOTE) (bytes 
       ∙ take_at one rest (HEAD + SUM) one_long
       ∙ sym (take_all (HEAD + SUM) one (omega (arith, one_long)))
       ∙ ap (λ (l : List ℕ). take (HEAD + SUM) l)
-          (sym (drop_at (zeros 472) one 472 gap) ∙ ap (λ (l : List ℕ). drop 472 l) (sym (drop_at one rest (HEAD + SUM) one_long)) ∙ drop-drop 472 (HEAD + SUM) (head_bytes_of next))
+      (sym (drop_at (zeros 472) one 472 gap) ∙ ap (λ (l : List ℕ). drop 472 l) (sym (drop_at one rest (HEAD + SUM) one_long)) ∙ drop-drop 472 (HEAD + SUM) (head_bytes_of next))
       ∙ sym (between_written (place_of odd) COPY (HEAD + SUM) (head_bytes_of next) bytes fits (omega (arith, long)))
       ∙ sym (ap (λ (m : ℕ). between (place_of odd + COPY) m base) (sum (place_of odd + COPY)))
 

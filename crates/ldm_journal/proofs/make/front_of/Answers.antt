@@ -14,7 +14,7 @@ returns c =
     let is : c.copy_from_slice-2.new.self ≡ head_bytes_of (first_marks ring) =
     c.copy_from_slice-2.ensures.after ∙ c.head_of-head.ensures ∙ ap head_bytes_of c.first_marks.ensures in
     ap (λ (l : List ℕ). put_mid 4096 3624 (l ++ drop 24 (replicate 12288 0)) c.copy_from_slice-2.new.self)
-        (c.copy_from_slice.ensures.after ∙ c.opening.ensures)
+    (c.copy_from_slice.ensures.after ∙ c.opening.ensures)
     ∙ ap (λ (l : List ℕ). put_mid 4096 3624 (opening ring ++ l) c.copy_from_slice-2.new.self) (drop-replicate 24 12288 0)
     ∙ ap (λ (l : List ℕ). put_mid 4096 3624 (opening ring ++ replicate 12264 0) l) is
     ∙ put_front ring
