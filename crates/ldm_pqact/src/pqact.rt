@@ -19,6 +19,7 @@ use crate::writer::{Writer, act_with};
 use ldm_actions::{Action, Done, Outputs};
 use ldm_outside::{Launcher, Reason, Sink, Store};
 use ldm_pqact_conf::Entries;
+use ldm_pqact_match::Chooser;
 use ldm_shared::{Pass, Reader, Shared};
 use ldm_types::{OutOfMemory, Signature};
 use std::alloc::Global;
@@ -61,7 +62,7 @@ impl Pqact {
         };
         let carrier = Carrier {
             alloc,
-            entries,
+            entries: Chooser::create(alloc, entries)?,
             writer,
             left: None,
             last: None,
