@@ -239,8 +239,8 @@ def images(place):
     ]
     for words, status, log in cases:
         expect(place.run(*words, source="script"), (status, b"", lines(None, log)), f"{words}")
-    with open(place.folder / "queue") as held:
-        fcntl.flock(held, fcntl.LOCK_EX)
+    with open(place.folder / "queue", "rb+") as held:
+        fcntl.lockf(held, fcntl.LOCK_EX)
         for words in (["save", "queue", 168, 10], ["resume", "queue"], ["pqcheck", "queue"]):
             expect(place.run(*words, source="script"), (72, b"", lines(None, "store fault")), f"{words} of a file that is locked")
 

@@ -24,6 +24,7 @@ mod lobby;
 mod net;
 mod pace;
 mod processes;
+mod queue_file;
 mod resting;
 mod seats;
 mod standard;
