@@ -24,3 +24,8 @@ mod Stream
 mod Pieces
 mod Signed
 mod Taken
+mod Feeding
+mod Lastings
+mod Fed
+mod Visited
+mod Links

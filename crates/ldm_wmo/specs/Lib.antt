@@ -26,3 +26,6 @@ pub mod Ingests
 pub mod Told
 pub mod IngestSamples
 pub mod Parts
+pub mod Lasting
+pub mod Feeds
+pub mod LastingParts

@@ -284,7 +284,8 @@ fn kind_of(command: &[u8], letter: u8) -> Option<Kind> {
         b"wmo" => match letter {
             b'f' => Some(Kind::Feed),
             b'o' => Some(Kind::Origin),
-            b's' => Some(Kind::Flag),
+            b's' | b'k' => Some(Kind::Flag),
+            b't' => Some(Kind::Seconds),
             b'q' => Some(Kind::Peer),
             _ => None,
         },
