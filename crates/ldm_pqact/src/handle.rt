@@ -2,7 +2,7 @@
 ghost use Rattle.std.specs.Prelude.{◌≡◌, ◌≤◌, ℕ, IfErr, IfOk, List};
 ghost use Rattle.std.specs.Vec.{vec_capacity};
 ghost use Rattle.ldm_shared.specs.Passes.{IsPassOf, IsSamePass};
-ghost use Rattle.ldm_actions.specs.Outputs.{KeepsUnlessSpent, standing};
+ghost use Rattle.ldm_actions.specs.Outputs.{KeepsAll, standing};
 ghost use Rattle.ldm_pqact.specs.declared.limits.TheConstants.{LARGEST_PIECE};
 ghost use Rattle.ldm_pqact.specs.Acting.{HandlesBy, sight_of};
 ghost use Rattle.ldm_pqact.specs.Handling.{IsHeld, Noted, NotedInPart, work_for};
@@ -53,14 +53,14 @@ impl Carrier {
         requires of { IsPassOf shared.now pass.old }
         requires holds { (body : List ℕ) × IsHeld pass.old holding body }
         requires room { LARGEST_PIECE ≤ vec_capacity self.old.writer.buffer }
-        requires keeps { KeepsUnlessSpent
+        requires keeps { KeepsAll
             (standing self.old.writer.outputs (F.tells store.old) (L.tells launcher.old)) }
         ensures kept { IsSamePass pass.old pass.new }
         ensures entries { self.new.entries ≡ self.old.entries }
         ensures left { self.new.left ≡ self.old.left }
         ensures last { self.new.last ≡ self.old.last }
         ensures room { LARGEST_PIECE ≤ vec_capacity self.new.writer.buffer }
-        ensures keeps { KeepsUnlessSpent
+        ensures keeps { KeepsAll
             (standing self.new.writer.outputs (F.tells store.new) (L.tells launcher.new)) }
         ensures handles { (body : List ℕ) → IsHeld pass.old holding body
             → HandlesBy result holding.reader.k (work_for self.old.entries holding.held body)
