@@ -381,6 +381,40 @@ def heavy_patterns(place):
     return attacked.told(f"{memory / MIB:.1f} MiB, {spent:.2f} s of processor time")
 
 
+def slow_classes(place):
+    """Classes whose patterns are slow to read, from a host that no rule names: each over a connection of its own, and each over the same one
+    where the last pattern is none. A worker rests nine times as long as it took, before the next request and the next peer."""
+    slow = rb"(?i)" + rb"[\w&&\w]" * 31
+    denied = product_class([(ANY, slow)] * 32) + number(BLOCK)
+    bad = product_class([(ANY, slow)] * 31 + [(ANY, b"(")]) + number(BLOCK)
+    end = time.monotonic() + 15
+
+    def be_denied():
+        while time.monotonic() < end:
+            with contextlib.suppress(OSError, Wrong), attacked.stranger() as peer:
+                peer.ask(FEEDME, denied)
+
+    def be_refused():
+        with contextlib.suppress(OSError, Wrong), attacked.stranger() as peer:
+            while time.monotonic() < end:
+                peer.ask(FEEDME, bad)
+
+    with Attacked(place) as attacked:
+        with attacked.stranger() as peer:
+            expect(peer.ask(FEEDME, denied), number(DENIED), "the answer to a class that is slow to read")
+        before = attacked.processor_time()
+        strangers = [threading.Thread(target=act) for act in (be_denied, be_denied, be_refused)]
+        for stranger in strangers:
+            stranger.start()
+        time.sleep(15)
+        spent = attacked.processor_time() - before
+        for stranger in strangers:
+            stranger.join()
+    # three workers at a tenth, what each took before its first rest, and who asks for figures
+    expect(spent < 15 * 0.3 + 3, True, f"whether {spent:.1f} s of processor time in 15 s are fewer than {15 * 0.3 + 3}")
+    return attacked.told(f"{spent:.1f} s of processor time in 15 s")
+
+
 # Peers that have rights
 
 
@@ -436,12 +470,12 @@ def subscribers_that_take_little(place):
 
 
 def subscribers_that_do_not_reply(place):
-    """Three subscribers that are asked whether they want a large product, and do not reply. Each is ended."""
+    """Three subscribers that are asked whether they want a large product, and do not reply. Each is ended after 20 seconds."""
     with Attacked(place, f"ALLOW ANY {rule_for(STRANGER)}\n") as attacked, attacked.strangers(3) as peers:
         attacked.put_all([Product(b"large", bytes(MIB))])
         for peer in peers:
             expect(peer.subscribe([(ANY, b".*")]), number(OK), "the answer to a FEEDME")
-        ends = until_all_closed(peers, 140)
+        ends = until_all_closed(peers, REST + LATE)
     return attacked.told("closed after {:.1f} to {:.1f} s".format(*ends))
 
 
@@ -629,6 +663,7 @@ CASES = [
     subscribers_that_go,
     large_records,
     heavy_patterns,
+    slow_classes,
     announces_much_and_sends_little,
     announces_much_and_tells_that_it_lives,
     subscribers_that_take_little,
