@@ -15,7 +15,7 @@ import time
 
 import nodes
 from nodes import FULL, HOST, MANY, OPEN, free_port, try_case
-from peers import Product, expect, port_of
+from peers import DECLINED, Product, expect, port_of
 
 CONF = {
     "good": OPEN,
@@ -261,18 +261,19 @@ def hosts_and_ports(place):
 
 
 def sizes(place):
-    """Sizes that no queue has, and too many workers: the status alone says so, and names no option."""
+    """Sizes that no queue has, and too many workers: a line says which there are."""
     at = ["node", "-p", free_port()]
+    arena = "-a: an arena is a multiple of 8 from 64 to 1073741824"
     cases = [
-        ([*at, "-a", 1001, "good"], "arena 1001"),
-        ([*at, "-a", 2**31, "good"], f"arena {2**31}"),
-        ([*at, "-S", 0, "good"], "slots 0"),
+        ([*at, "-a", 1001, "good"], arena, "arena 1001"),
+        ([*at, "-a", 2**31, "good"], arena, f"arena {2**31}"),
+        ([*at, "-S", 0, "good"], "-S: slots are from 1 to 1048576", "slots 0"),
         # a pass for each worker and one more
-        ([*at, "-w", 100, "good"], "passes 101"),
-        (["pqcat", "-a", 1001, "-q", f"{HOST}:1"], "arena 1001"),
+        ([*at, "-w", 100, "good"], "-w: workers and REQUEST lines are at most 63 together", "passes 101"),
+        (["pqcat", "-a", 1001, "-q", f"{HOST}:1"], arena, "arena 1001"),
     ]
-    for words, what in cases:
-        expect(place.run(*words), (67, b"", lines(None, f"refused {what}")), f"{words}")
+    for words, why, what in cases:
+        expect(place.run(*words), (67, b"", lines(why, f"refused {what}")), f"{words}")
     # no worker: nobody is served, and it ends at once
     expect(place.run(*at, "-w", 0, "good"), (0, b"stat 0 0 0 0 67108864\n", b""), "a node without workers")
 
@@ -308,10 +309,10 @@ def rules(place):
 
 
 def no_right(place):
-    """A node with no rule for this host, and one whose worker is taken: a tool is told no more than `denied`, or waits."""
+    """A node with no rule for this host, and one whose worker is taken: a tool is told which rules there may be, or waits."""
     strict = place.node("ALLOW ANY ^9$\n")
     for words in (["pqmon"], ["pqcat"], ["notifyme"], ["pqstats"], ["pqinsert", "good"]):
-        expect(place.run(words[0], "-q", strict.at, *words[1:]), (78, b"", b"ldm: denied\n"), f"{words} of a node without a rule for it")
+        expect(place.run(words[0], "-q", strict.at, *words[1:]), (78, b"", DECLINED), f"{words} of a node without a rule for it")
     busy = place.node(OPEN, "-w", 1)
     with busy.connect() as peer:
         peer.stat()

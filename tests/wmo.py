@@ -21,7 +21,7 @@ import threading
 import time
 
 from peers import (
-    ADMITTED, DDPLUS, DDS, DUPLICATE, HEREIS, IDS, IS_ALIVE, NOT_ACCEPTED, PATIENCE, TOO_BIG,
+    ADMITTED, DDPLUS, DDS, DECLINED, DUPLICATE, HEREIS, IDS, IS_ALIVE, NOT_ACCEPTED, PATIENCE, TOO_BIG,
     Peer, Product, Upstream, Wrong, call, expect, hold_port, number, port_of, record, reply,
 )  # fmt: skip
 from runs import (
@@ -127,7 +127,7 @@ class Plain:
         self.output += told.line
         if told.code == NOT_ACCEPTED:
             self.status = 78
-            self.log += b"ldm: denied\n"
+            self.log += DECLINED
             return False
         if told.code != ADMITTED:
             self.status = self.status or 79
@@ -579,7 +579,7 @@ def ends_wrongly(place, what, answered, says, at, say_no_more=False):
             peer.send(reply(xid, told.result) if xid <= answered else says)
         if say_no_more:
             peer.say_no_more()
-        log = plain.log.replace(b"ldm: denied\n", b"ldm: bad frame at %d\n" % at)
+        log = plain.log.replace(DECLINED, b"ldm: bad frame at %d\n" % at)
         expect_run(run.end(), (65, plain.output, log), what)
         expect(peer.next_record(), None, f"what comes of {what}")
 
@@ -858,7 +858,7 @@ def tells_what_fails(place):
     cases = [
         (GOOD + GOOD, ok, {"output": FULL}, 1, (75, b"", b"ldm: sink fault\n")),
         (BAD + GOOD + GOOD, ok, {"output": FULL}, 1, (75, b"", b"bad bulletin at 0\nldm: sink fault\n")),
-        (GOOD + BAD, [DENY], {"output": FULL}, 1, (78, b"", b"ldm: denied\n")),
+        (GOOD + BAD, [DENY], {"output": FULL}, 1, (78, b"", DECLINED)),
         (BAD + b"\x01", ok, {"output": FULL}, 0, (65, b"", b"bad bulletin at 0\ncut bulletin at 39\n")),
         (GOOD + BAD + GOOD, ok, {"log": FULL}, 1, (76, ok[0].line, b"")),
         (GOOD + GOOD + b"\x01", ok, {"log": FULL}, 2, (76, ok[0].line * 2, b"")),
