@@ -1,5 +1,5 @@
 -- What looking for the faults of files comes to: what is told of them, in order.
-use Rattle.std.specs.Prelude.{◌≡◌, ℕ, List, [], ◌∷◌, ◌++◌, Some}
+use Rattle.std.specs.Prelude.{◌≡◌, ℕ, ◌≤◌, List, [], ◌∷◌, ◌++◌, length, Some}
 use Rattle.ldm_outside.specs.Reason.{IsReason}
 use Rattle.ldm_outside.specs.Store.{StoreRecord, ReadsFile}
 use Rattle.ldm_outside.specs.declared.store.FileRead.{FileRead}
@@ -36,6 +36,13 @@ abbrev pub AsksAll : List Asked → StoreRecord → StoreRecord → Type 0
 AsksAll [] old new = new ≡ old
 AsksAll (one ∷ more) old new =
     (mid : StoreRecord) × ReadsFile one.answer one.path LONGEST_CONFIGURATION old mid × AsksAll more mid new
+
+-- what came is no longer than a file may be
+abbrev pub IsShort : FileRead → Type 0
+IsShort (read.Bytes bytes) = length bytes.items ≤ LONGEST_CONFIGURATION
+IsShort read.TooLong = Unit {0}
+IsShort read.Failed = Unit {0}
+IsShort read.OutOfMemory = Unit {0}
 
 -- the store, and what was told so far
 pub record Scene : Type 0 where

@@ -1,4 +1,5 @@
 pub mod Lines
+pub mod Large
 pub mod Warnings
 pub mod Concerns
 pub mod Says

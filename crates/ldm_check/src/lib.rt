@@ -3,6 +3,7 @@
 
 mod command;
 mod conf_file;
+mod large;
 mod laws;
 mod lines;
 mod looking;

@@ -488,8 +488,8 @@ fn by_keyword<'a>(
     None
 }
 
-// Whether a word is that name, in letters of either case.
-fn is_named(name: &[u8], word: &[u8]) -> bool
+/// Whether a word is that name, in letters of either case.
+pub(crate) fn is_named(name: &[u8], word: &[u8]) -> bool
     ensures { result ≡ str_eq_ignore_ascii_case name.now word.now }
 {
     name.eq_ignore_ascii_case(word)
@@ -527,8 +527,8 @@ fn is_group(byte: u8) -> bool
     matches!(byte, b'1'..=b'9')
 }
 
-// The second field of a line, between its first tabs and the next one: the pattern of an entry.
-fn second_field(line: &[u8]) -> &[u8]
+/// The second field of a line, between its first tabs and the next one: the pattern of an entry.
+pub(crate) fn second_field(line: &[u8]) -> &[u8]
     ensures { result.now ≡ second_field line.now }
 {
     field_of(behind_blanks(behind(line, place_of(b'\t', line))))
