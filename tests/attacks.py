@@ -381,40 +381,6 @@ def heavy_patterns(place):
     return attacked.told(f"{memory / MIB:.1f} MiB, {spent:.2f} s of processor time")
 
 
-def slow_classes(place):
-    """Classes whose patterns are slow to read, from a host that no rule names: each over a connection of its own, and each over the same one
-    where the last pattern is none. A worker rests nine times as long as it took, before the next request and the next peer."""
-    slow = rb"(?i)" + rb"[\w&&\w]" * 31
-    denied = product_class([(ANY, slow)] * 32) + number(BLOCK)
-    bad = product_class([(ANY, slow)] * 31 + [(ANY, b"(")]) + number(BLOCK)
-    end = time.monotonic() + 15
-
-    def be_denied():
-        while time.monotonic() < end:
-            with contextlib.suppress(OSError, Wrong), attacked.stranger() as peer:
-                peer.ask(FEEDME, denied)
-
-    def be_refused():
-        with contextlib.suppress(OSError, Wrong), attacked.stranger() as peer:
-            while time.monotonic() < end:
-                peer.ask(FEEDME, bad)
-
-    with Attacked(place) as attacked:
-        with attacked.stranger() as peer:
-            expect(peer.ask(FEEDME, denied), number(DENIED), "the answer to a class that is slow to read")
-        before = attacked.processor_time()
-        strangers = [threading.Thread(target=act) for act in (be_denied, be_denied, be_refused)]
-        for stranger in strangers:
-            stranger.start()
-        time.sleep(15)
-        spent = attacked.processor_time() - before
-        for stranger in strangers:
-            stranger.join()
-    # three workers at a tenth, what each took before its first rest, and who asks for figures
-    expect(spent < 15 * 0.3 + 3, True, f"whether {spent:.1f} s of processor time in 15 s are fewer than {15 * 0.3 + 3}")
-    return attacked.told(f"{spent:.1f} s of processor time in 15 s")
-
-
 # Peers that have rights
 
 
@@ -470,12 +436,12 @@ def subscribers_that_take_little(place):
 
 
 def subscribers_that_do_not_reply(place):
-    """Three subscribers that are asked whether they want a large product, and do not reply. Each is ended after 20 seconds."""
+    """Three subscribers that are asked whether they want a large product, and do not reply. Each is ended."""
     with Attacked(place, f"ALLOW ANY {rule_for(STRANGER)}\n") as attacked, attacked.strangers(3) as peers:
         attacked.put_all([Product(b"large", bytes(MIB))])
         for peer in peers:
             expect(peer.subscribe([(ANY, b".*")]), number(OK), "the answer to a FEEDME")
-        ends = until_all_closed(peers, REST + LATE)
+        ends = until_all_closed(peers, 140)
     return attacked.told("closed after {:.1f} to {:.1f} s".format(*ends))
 
 
@@ -634,24 +600,6 @@ def files_that_may_not_grow(place):
     return "72 and 75"
 
 
-def texts_that_move_a_terminal(place):
-    """Control characters above the ASCII ones, and characters that turn the direction of a line, in an ident and in a path: a line of the
-    log has a question mark for each, and other letters as they are."""
-    ident = "SAUS\x1b\u009b31m\u202e\u00e9\u2066.\u061c\u0099"
-    shown = "SAUS??31m?\u00e9?.??"
-    node = place.node("ALLOW ANY .*\nACCEPT ANY .* .*\n")
-    node.put_all([Product(ident.encode(), b"a body")])
-    (place.folder / "folder").mkdir()
-    place.file("entries", "ANY\t^SAUS\tFILE\tfolder\n")
-    cases = [
-        (["pqact", "-c", 1, "entries", node.at], f"ldm: {shown}: folder: Is a directory\nldm: store fault\n"),
-        (["pqact", ident, node.at], f"ldm: {shown}: No such file or directory\nldm: store fault\n"),
-    ]
-    for words, told in cases:
-        expect(place.run(*words), (72, b"", told.encode()), f"{words}")
-    return "72, with a question mark for each"
-
-
 CASES = [
     are_silent,
     say_a_byte_at_a_time,
@@ -663,7 +611,6 @@ CASES = [
     subscribers_that_go,
     large_records,
     heavy_patterns,
-    slow_classes,
     announces_much_and_sends_little,
     announces_much_and_tells_that_it_lives,
     subscribers_that_take_little,
@@ -674,7 +621,6 @@ CASES = [
     logs_that_are_closed,
     files_that_are_none,
     files_that_may_not_grow,
-    texts_that_move_a_terminal,
 ]
 
 

@@ -24,9 +24,9 @@ import threading
 import time
 
 from peers import (
-    ADMITTED, ANY, BADPATTERN, BLKDATA, BLOCK, COMINGSOON, DDPLUS, DDS, DECLINED, DENIED, DONT_SEND, DUPLICATE, EXP, FEEDME, GARBAGE,
+    ADMITTED, ANY, BADPATTERN, BLKDATA, BLOCK, COMINGSOON, DDPLUS, DDS, DENIED, DONT_SEND, DUPLICATE, EXP, FEEDME, GARBAGE,
     GREATEST_INSTANT, HDS, HEREIS, HIYA, IDS, IS_ALIVE, LARGEST_RECORD, NO_PROCEDURE, NO_PROGRAM, NOT_ACCEPTED, NOTIFICATION,
-    NOTIFYME, OK, OTHER_VERSION, PATIENCE, PUT, QSTAT, RECLASS, TOO_BIG, WHY_DECLINED,
+    NOTIFYME, OK, OTHER_VERSION, PATIENCE, PUT, QSTAT, RECLASS, TOO_BIG,
     Peer, Product, Stat, Upstream, Wrong, call, expect, hold_port, number, port_of, product_class, read_product, record, reply, string,
 )  # fmt: skip
 from program import PROGRAM
@@ -1065,7 +1065,7 @@ def asks_for_figures(place):
     used = sum(product.extent() for product in products)
     expect(ran, (0, Stat(3, 3, 0, used, ARENA - used).line().encode(), b""), "pqmon")
     denying = place.node("ACCEPT ANY .* .*\nALLOW ANY ^10\\.\n")
-    expect(place.run("pqmon", "-q", denying.at), (78, b"", DECLINED), "pqmon at a node that denies")
+    expect(place.run("pqmon", "-q", denying.at), (78, b"", b"ldm: denied\n"), "pqmon at a node that denies")
     nowhere = f"{HOST}:{free_port()}"
     for words in (["pqmon"], ["pqcat"], ["notifyme"], ["pqstats"], ["wmo"], ["pqinsert", place.file("a", "a")]):
         ran = place.run(words[0], "-q", nowhere, *words[1:])
@@ -1143,9 +1143,9 @@ def hears_wrong_streams(place):
         (answer + hereis + call(2, QSTAT), 65, b"ABCD", "ldm: bad frame at 132\n"),
         (answer + call(1, COMINGSOON, big.metadata() + number(BLOCK)), 65, b"", f"ldm: bad frame at {80 + len(big.metadata())}\n"),
         (answer + huge + call(2, HEREIS, other.whole()), 0, b"more", f"refused p toobig {need} 67108864\n"),
-        (reply(1, number(DENIED)), 78, b"", DECLINED.decode()),
-        (reply(1, number(4)), 78, b"", DECLINED.decode()),
-        (reply(1, number(RECLASS) + asked), 78, b"", DECLINED.decode()),
+        (reply(1, number(DENIED)), 78, b"", "ldm: denied\n"),
+        (reply(1, number(4)), 78, b"", "ldm: denied\n"),
+        (reply(1, number(RECLASS) + asked), 78, b"", "ldm: denied\n"),
         (b"", 65, b"", "ldm: bad frame at 0\n"),
         (answer[:5], 65, b"", "ldm: bad frame at 5\n"),
         (reply(7, number(OK)), 65, b"", "ldm: bad frame at 0\n"),
@@ -1157,7 +1157,7 @@ def hears_wrong_streams(place):
         (answer + notice[:-1], 65, b"", f"ldm: bad frame at {31 + len(notice)}\n"),
         (answer + hereis, 65, b"", "ldm: bad frame at 32\n"),
         (answer + notice + number(2**32 - 1), 65, line, f"ldm: bad frame at {32 + len(notice)}\n"),
-        (reply(1, number(DENIED)), 78, b"", DECLINED.decode()),
+        (reply(1, number(DENIED)), 78, b"", "ldm: denied\n"),
         (b"", 65, b"", "ldm: bad frame at 0\n"),
         (answer, 0, b"", ""),
     ]
@@ -1265,10 +1265,10 @@ def puts_files_in(place):
         put(72, missing, ["admitted 5 0"], [Product(b"three", b"3", EXP, 0, b"localhost")], "three", "missing")
     choosy = place.node("ACCEPT EXP ^one$ .*\nALLOW ANY .*\n")
     ran = place.run("pqinsert", "-q", choosy.at, "one", "empty", "missing")
-    expect((ran.status, ran.output.startswith(b"admitted 0 "), ran.output.count(b"\n"), ran.log), (78, True, 1, DECLINED), "pqinsert that is denied")
+    expect((ran.status, ran.output.startswith(b"admitted 0 "), ran.output.count(b"\n"), ran.log), (78, True, 1, b"ldm: denied\n"), "pqinsert that is denied")
     expect(choosy.stat()[:2], (1, 1), "the first figures behind it")
     closed = place.node("ALLOW ANY .*\n")
-    expect(place.run("pqinsert", "-q", closed.at, "one"), (78, b"", DECLINED), "pqinsert where no ACCEPT line is")
+    expect(place.run("pqinsert", "-q", closed.at, "one"), (78, b"", b"ldm: denied\n"), "pqinsert where no ACCEPT line is")
 
 
 def bulletin(digits, heading, text, blanks=""):
@@ -1353,11 +1353,11 @@ def puts_bulletins_in_as_they_come(place):
     place.file("stream", b"\x01\x03" + bulletins[0] + bulletins[1] + bulletins[0])
     closed = place.node("ALLOW ANY .*\n")
     ran = place.run("wmo", "-q", closed.at, source="stream")
-    expect(ran, (78, b"", b"bad bulletin at 0\n" + DECLINED), "wmo where no ACCEPT line is")
+    expect(ran, (78, b"", b"bad bulletin at 0\nldm: denied\n"), "wmo where no ACCEPT line is")
     choosy = place.node("ALLOW ANY .*\nACCEPT IDS 0000$ .*\n")
     ran = place.run("wmo", "-q", choosy.at, source="stream")
     told, _ = answers_to_puts(ran.output.decode().splitlines())
-    expect((ran.status, ran.log, told), (78, b"bad bulletin at 0\n" + DECLINED, ["admitted 0 0"]), "wmo that is denied")
+    expect((ran.status, ran.log, told), (78, b"bad bulletin at 0\nldm: denied\n", ["admitted 0 0"]), "wmo that is denied")
     expect(choosy.stat()[:2], (1, 1), "the first figures behind it")
     small = place.node(OPEN, "-a", 64)
     need = product_of(bulletins[0], headings[0], 0).extent()
@@ -1407,7 +1407,7 @@ def writes_some_bodies(place):
     ]
     for words, wanted in cases:
         expect(place.run("pqcat", "-q", node.at, *words), (0, b"".join(wanted), b""), f"pqcat {words}")
-    expect(place.run("pqcat", "-q", node.at, "-f", "HDS"), (78, b"", DECLINED), "pqcat of what nobody may have")
+    expect(place.run("pqcat", "-q", node.at, "-f", "HDS"), (78, b"", b"ldm: denied\n"), "pqcat of what nobody may have")
 
 
 def writes_notices(place):
@@ -1426,7 +1426,7 @@ def writes_notices(place):
     expect(place.run("notifyme", "-t", "-q", node.at, "-c", 3), (0, b"".join(lines), b""), "notifyme -t")
     last = f"notice 100 {hashlib.md5(b'-').hexdigest()} 0x00000008 0 h %2D 1\n".encode()
     expect(place.run("notifyme", "-q", node.at, "-f", "IDS|HDS", "-p", "-", "-c", 1), (0, last, b""), "notifyme -p")
-    expect(place.run("notifyme", "-q", node.at, "-f", "HDS"), (78, b"", DECLINED), "notifyme of what nobody may have")
+    expect(place.run("notifyme", "-q", node.at, "-f", "HDS"), (78, b"", b"ldm: denied\n"), "notifyme of what nobody may have")
 
 
 class Counted(collections.namedtuple("Counted", "status log lines latencies answers output")):
@@ -1482,7 +1482,7 @@ def counts_products(place):
         for line, latency in zip(lines, found.latencies):
             if not before <= since[line] + latency <= after:
                 raise Wrong(f"a latency of {latency}, for {line!r}, between {before} and {after}")
-    expect(place.run("pqstats", "-q", node.at, "-f", "HDS"), (78, b"", DECLINED), "pqstats of what nobody may have")
+    expect(place.run("pqstats", "-q", node.at, "-f", "HDS"), (78, b"", b"ldm: denied\n"), "pqstats of what nobody may have")
 
 
 def sends_its_counts(place):
@@ -1521,7 +1521,7 @@ def sends_its_counts(place):
     closed = place.node("ALLOW ANY .*\nACCEPT IDS .* .*\n", *MANY)
     closed.put_all(products[:1])
     found = counted(place.run("pqstats", "-q", closed.at, "-c", 1, "-s"))
-    expect((found[:3], found.answers), ((78, DECLINED.decode(), lines[2:]), []), "pqstats -s where no ACCEPT line lets it")
+    expect((found[:3], found.answers), ((78, "ldm: denied\n", lines[2:]), []), "pqstats -s where no ACCEPT line lets it")
     # nobody listens any more when it connects again
     with Upstream() as upstream:
         program = place.start("pqstats", "-s", "-q", f"{HOST}:{upstream.port}")
@@ -1560,7 +1560,7 @@ def counts_what_came(place):
         (answer + hereis[:50], 65, [], "ldm: bad frame at 82\n"),
         (answer + hereis + call(2, QSTAT), 65, [], "ldm: bad frame at 132\n"),
         (answer + hereis + number(2**32 - 1), 65, [], "ldm: bad frame at 132\n"),
-        (reply(1, number(DENIED)), 78, [], DECLINED.decode()),
+        (reply(1, number(DENIED)), 78, [], "ldm: denied\n"),
         (b"", 65, [], "ldm: bad frame at 0\n"),
     ]
     for stream, status, lines, log in cases:
@@ -1768,7 +1768,7 @@ def acts_no_more(place):
         (["long", nowhere], 65, "long: the file is too long", "bad pqact line 0 kind 0"),
         (["missing", nowhere], 72, "missing: No such file or directory", "store fault"),
         (["good", nowhere], 69, f"{nowhere}: Connection refused", "net fault"),
-        (["-f", "HDS", "good", node.at], 78, WHY_DECLINED, "denied"),
+        (["-f", "HDS", "good", node.at], 78, "denied"),
         (["no file", node.at], 72, "a: folder: Is a directory", "store fault"),
         (["no program", node.at], 73, "a: no-such-program-is-here: No such file or directory", "child fault"),
         (["no program too", node.at], 73, "a: no-such-program-is-here: No such file or directory", "child fault"),
@@ -1832,7 +1832,7 @@ def ends_with_each_status(place):
         (["play", 168, 10], {"source": "."}, 74, "source fault"),
         (["pqmon", "-q", node.at], {"output": FULL}, 75, "sink fault"),
         (["play"], {"log": FULL}, 76),
-        (["pqcat", "-f", "HDS", "-q", node.at], {}, 78, WHY_DECLINED, "denied"),
+        (["pqcat", "-f", "HDS", "-q", node.at], {}, 78, "denied"),
         (["pqinsert", "-q", node.at, "twice"], {}, 79, "refused"),
     ]
     for words, streams, status, *log in cases:
@@ -1859,8 +1859,6 @@ def does_not_begin(place):
     }
     for name, text in files.items():
         place.file(name, text)
-    arena = "-a: an arena is a multiple of 8 from 64 to 1073741824"
-    workers = "-w: workers and REQUEST lines are at most 63 together"
     at = ["-p", port]
     cases = [
         ([*at, "keyword"], 65, "keyword:2: no such keyword: FOO x", "bad conf file 0 line 2 kind 1"),
@@ -1874,12 +1872,12 @@ def does_not_begin(place):
         ([*at, "no-such-file"], 72, "no-such-file: No such file or directory", "store fault"),
         ([*at, "lacks"], 73, "no-such-program-is-here: No such file or directory", "child fault"),
         ([*at, "-a", 60, "keyword"], 65, "keyword:2: no such keyword: FOO x", "bad conf file 0 line 2 kind 1"),
-        ([*at, "-a", 60, "-S", 0, "good"], 67, arena, "refused arena 60"),
-        ([*at, "-a", 2**64 - 8, "good"], 67, arena, f"refused arena {2**64 - 8}"),
-        ([*at, "-S", 0, "-w", 64, "good"], 67, "-S: slots are from 1 to 1048576", "refused slots 0"),
-        ([*at, "-w", 64, "good"], 67, workers, "refused passes 65"),
-        ([*at, "-w", 4, "asks"], 67, workers, "refused passes 65"),
-        ([*at, "-w", 2**32 - 1, "good"], 67, workers, f"refused passes {2**32 - 1}"),
+        ([*at, "-a", 60, "-S", 0, "good"], 67, "refused arena 60"),
+        ([*at, "-a", 2**64 - 8, "good"], 67, f"refused arena {2**64 - 8}"),
+        ([*at, "-S", 0, "-w", 64, "good"], 67, "refused slots 0"),
+        ([*at, "-w", 64, "good"], 67, "refused passes 65"),
+        ([*at, "-w", 4, "asks"], 67, "refused passes 65"),
+        ([*at, "-w", 2**32 - 1, "good"], 67, f"refused passes {2**32 - 1}"),
         (["-p", node.port, "good"], 69, f"port {node.port}: Address already in use", "net fault"),
     ]
     for words, status, *log in cases:

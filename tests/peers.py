@@ -17,9 +17,6 @@ HEREIS, FEEDME, HIYA, NOTIFICATION, NOTIFYME, COMINGSOON, BLKDATA, IS_ALIVE, QST
 OK, RECLASS, DENIED, BADPATTERN, BUSY = range(5)
 # What PUT is answered.
 ADMITTED, TOO_BIG, DUPLICATE, TIME_END, LOCKED, NOT_ACCEPTED = range(6)
-# What a tool logs that its node declined.
-WHY_DECLINED = "no ALLOW line of the node lets this host have the feedtype, or no ACCEPT line put it in; or it is busy"
-DECLINED = f"ldm: {WHY_DECLINED}\nldm: denied\n".encode()
 # What COMINGSOON is answered besides OK.
 DONT_SEND = 1
 # Why a call was not carried out.

@@ -15,7 +15,7 @@ import time
 
 import nodes
 from nodes import FULL, HOST, MANY, OPEN, free_port, try_case
-from peers import DECLINED, Product, expect, port_of
+from peers import Product, expect, port_of
 
 CONF = {
     "good": OPEN,
@@ -59,7 +59,6 @@ CONF = {
     "far.conf": f"{OPEN}REQUEST ANY .* host:99999\n",
     "brackets.conf": f"{OPEN}REQUEST ANY .* [::1]:388\n",
     "spaces": "IDS ^S FILE data\n",
-    "star": "IDS\t*\tNOOP\n",
     "some spaces": "IDS\t^S\tFILE    -close  data\n",
     "words": "no bulletin is here\n",
     "heading": "SAUS44 KWBC 010000\r\r\nMETAR KDCA=\r\r\n",
@@ -239,8 +238,8 @@ def images(place):
     ]
     for words, status, log in cases:
         expect(place.run(*words, source="script"), (status, b"", lines(None, log)), f"{words}")
-    with open(place.folder / "queue", "rb+") as held:
-        fcntl.lockf(held, fcntl.LOCK_EX)
+    with open(place.folder / "queue") as held:
+        fcntl.flock(held, fcntl.LOCK_EX)
         for words in (["save", "queue", 168, 10], ["resume", "queue"], ["pqcheck", "queue"]):
             expect(place.run(*words, source="script"), (72, b"", lines(None, "store fault")), f"{words} of a file that is locked")
 
@@ -261,58 +260,44 @@ def hosts_and_ports(place):
 
 
 def sizes(place):
-    """Sizes that no queue has, and too many workers: a line says which there are."""
+    """Sizes that no queue has, and too many workers: the status alone says so, and names no option."""
     at = ["node", "-p", free_port()]
-    arena = "-a: an arena is a multiple of 8 from 64 to 1073741824"
     cases = [
-        ([*at, "-a", 1001, "good"], arena, "arena 1001"),
-        ([*at, "-a", 2**31, "good"], arena, f"arena {2**31}"),
-        ([*at, "-S", 0, "good"], "-S: slots are from 1 to 1048576", "slots 0"),
+        ([*at, "-a", 1001, "good"], "arena 1001"),
+        ([*at, "-a", 2**31, "good"], f"arena {2**31}"),
+        ([*at, "-S", 0, "good"], "slots 0"),
         # a pass for each worker and one more
-        ([*at, "-w", 100, "good"], "-w: workers and REQUEST lines are at most 63 together", "passes 101"),
-        (["pqcat", "-a", 1001, "-q", f"{HOST}:1"], arena, "arena 1001"),
+        ([*at, "-w", 100, "good"], "passes 101"),
+        (["pqcat", "-a", 1001, "-q", f"{HOST}:1"], "arena 1001"),
     ]
-    for words, why, what in cases:
-        expect(place.run(*words), (67, b"", lines(why, f"refused {what}")), f"{words}")
+    for words, what in cases:
+        expect(place.run(*words), (67, b"", lines(None, f"refused {what}")), f"{words}")
     # no worker: nobody is served, and it ends at once
     expect(place.run(*at, "-w", 0, "good"), (0, b"stat 0 0 0 0 67108864\n", b""), "a node without workers")
 
 
 def rules(place):
-    """Lines that are read, and mean something else than what was wanted, and the likeliest mistakes of lines that are not read."""
-    slash = "warning: the host pattern has a slash, and no address has one: 10.1.0.0/16 is ^10[.]1[.]"
-    order = "warning: the first pattern is one of hosts, and the last is none: ACCEPT feedtype pattern hostpattern"
-    brackets = "warning: the host is in brackets, and no address is: [::1]:388 is ::1:388"
+    """Lines that are read, and mean something else than what was wanted: `check` is silent of some."""
+    few = "too few fields, too many, or one of a wrong form"
     cases = [
-        (["cidr.conf"], 0, f"cidr.conf:3: {slash}\n"),
-        (["order.conf"], 0, f"order.conf:3: {order}\n"),
-        (["brackets.conf"], 0, f"brackets.conf:3: {brackets}\n"),
-        (["star.conf"], 65, "star.conf:3: a pattern that does not read: for any text write .*: ALLOW ANY *\n"),
-        (["far.conf"], 65, "far.conf:3: a port above 65535: REQUEST ANY .* host:99999\n"),
-        (["-p", "spaces"], 65, "spaces:1: too few fields: tabs part them, and here is none: IDS ^S FILE data\n"),
-        (["-p", "some spaces"], 65,
-         "some spaces:1: no such action: a tab ends its name, and no space: IDS?^S?FILE    -close  data\n"),
-        (["-p", "star"], 65, "star:1: a pattern that does not read: for any text write .*: IDS?*?NOOP\n"),
-    ]  # fmt: skip
+        (["cidr.conf"], 0, ""),
+        (["order.conf"], 0, ""),
+        (["brackets.conf"], 0, ""),
+        (["star.conf"], 65, "star.conf:3: a pattern that does not read: ALLOW ANY *\n"),
+        (["far.conf"], 65, "far.conf:3: too few words, too many, or one of a wrong form: REQUEST ANY .* host:99999\n"),
+        (["-p", "spaces"], 65, f"spaces:1: {few}: IDS ^S FILE data\n"),
+        (["-p", "some spaces"], 65, "some spaces:1: no such action: IDS?^S?FILE    -close  data\n"),
+    ]
     for words, status, said in cases:
         expect(place.run("check", *words), (status, said.encode(), b""), f"check {words}")
-    # a node and `pqact` say it too
-    at = ["node", "-p", free_port()]
-    cases = [
-        ([*at, "star.conf"], "star.conf:3: a pattern that does not read: for any text write .*: ALLOW ANY *", "conf file 0 line 3 kind 4"),
-        ([*at, "far.conf"], "far.conf:3: a port above 65535: REQUEST ANY .* host:99999", "conf file 0 line 3 kind 2"),
-        (["pqact", "spaces", f"{HOST}:1"], "spaces:1: too few fields: tabs part them, and here is none: IDS ^S FILE data", "pqact line 1 kind 1"),
-    ]
-    for words, why, kind in cases:
-        expect(place.run(*words), (65, b"", lines(why, f"bad {kind}")), f"{words}")
     expect(place.run("pqmon", "-q", "[::1]:388").status, 69, "a host in brackets")
 
 
 def no_right(place):
-    """A node with no rule for this host, and one whose worker is taken: a tool is told which rules there may be, or waits."""
+    """A node with no rule for this host, and one whose worker is taken: a tool is told no more than `denied`, or waits."""
     strict = place.node("ALLOW ANY ^9$\n")
     for words in (["pqmon"], ["pqcat"], ["notifyme"], ["pqstats"], ["pqinsert", "good"]):
-        expect(place.run(words[0], "-q", strict.at, *words[1:]), (78, b"", DECLINED), f"{words} of a node without a rule for it")
+        expect(place.run(words[0], "-q", strict.at, *words[1:]), (78, b"", b"ldm: denied\n"), f"{words} of a node without a rule for it")
     busy = place.node(OPEN, "-w", 1)
     with busy.connect() as peer:
         peer.stat()

@@ -20,7 +20,7 @@ import struct
 import typing
 
 from peers import (
-    ADMITTED, ANY, BADPATTERN, BLKDATA, BLOCK, BUSY, COMINGSOON, DDS, DECLINED, DENIED, DONT_SEND, EXP, FEEDME, GREATEST_INSTANT,
+    ADMITTED, ANY, BADPATTERN, BLKDATA, BLOCK, BUSY, COMINGSOON, DDS, DENIED, DONT_SEND, EXP, FEEDME, GREATEST_INSTANT,
     HDS, HEREIS, IDS, IS_ALIVE, NOT_ACCEPTED, OK, PATIENCE, QSTAT, RECLASS,
     Peer, Product, Upstream, Wrong, call, expect, hold_port, number, port_of, product_class, record, reply,
 )  # fmt: skip
@@ -259,7 +259,7 @@ def take_hours(peer, run, products, answers, begun, waits=False):
         earliest = now()
         peer.send(reply(xid, told.result))
         if told.code == NOT_ACCEPTED:
-            return Sent(output, 78, DECLINED)
+            return Sent(output, 78, b"ldm: denied\n")
         output += told.line
         status = status if told.code == ADMITTED else 79
     return Sent(output, status, b"ldm: refused\n" if status else b"")
@@ -607,8 +607,7 @@ def hears_wrong_streams(place):
             peer.say_no_more()
             ran = run.end()
             expect(is_asked_again(upstream), False, f"whether somebody connects again behind {stream.hex()[:400]}")
-        told = DECLINED if status == 78 else f"ldm: {log}\n".encode()
-        expect(tuple(ran), (status, b"", told), f"the stream {stream.hex()[:400]}")
+        expect(tuple(ran), (status, b"", f"ldm: {log}\n".encode()), f"the stream {stream.hex()[:400]}")
 
 
 def follows_reclass(place):

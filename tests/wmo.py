@@ -9,19 +9,15 @@ by then is looked at too.
 Called as: tests/wmo.py [PROGRAM]
 """
 
-import contextlib
 import hashlib
-import itertools
 import os
 import random
 import re
-import socket
 import struct
 import threading
-import time
 
 from peers import (
-    ADMITTED, DDPLUS, DDS, DECLINED, DUPLICATE, HEREIS, IDS, IS_ALIVE, NOT_ACCEPTED, PATIENCE, TOO_BIG,
+    ADMITTED, DDPLUS, DDS, DUPLICATE, HEREIS, IDS, IS_ALIVE, NOT_ACCEPTED, TOO_BIG,
     Peer, Product, Upstream, Wrong, call, expect, hold_port, number, port_of, record, reply,
 )  # fmt: skip
 from runs import (
@@ -127,7 +123,7 @@ class Plain:
         self.output += told.line
         if told.code == NOT_ACCEPTED:
             self.status = 78
-            self.log += DECLINED
+            self.log += b"ldm: denied\n"
             return False
         if told.code != ADMITTED:
             self.status = self.status or 79
@@ -528,7 +524,7 @@ def says_words(place):
     wrong = [
         ["x"], ["-f", "FOO"], ["-f", ""], ["-f"], ["-o", "o" * 65], ["-o", "é" * 33], ["-q", HOST],
         ["-q", f"{HOST}:0"],
-        ["-t", "5"], ["-k", "-t", "0"], ["-k", "-k"], ["-k", "-t", "x"], ["-s", "-s"], ["-s1"], ["-s", "x"], ["-p", "i"], ["-c", "1"], ["-i"], ["-w", "1"], ["-z"],
+        ["-s", "-s"], ["-s1"], ["-s", "x"], ["-p", "i"], ["-c", "1"], ["-i"], ["-w", "1"], ["-z"],
         ["-o", "a", "-o", "a"], ["-f", "IDS", "-f", "IDS"],
     ]  # fmt: skip
     for words in wrong:
@@ -579,7 +575,7 @@ def ends_wrongly(place, what, answered, says, at, say_no_more=False):
             peer.send(reply(xid, told.result) if xid <= answered else says)
         if say_no_more:
             peer.say_no_more()
-        log = plain.log.replace(DECLINED, b"ldm: bad frame at %d\n" % at)
+        log = plain.log.replace(b"ldm: denied\n", b"ldm: bad frame at %d\n" % at)
         expect_run(run.end(), (65, plain.output, log), what)
         expect(peer.next_record(), None, f"what comes of {what}")
 
@@ -638,161 +634,6 @@ def closes_early(place):
         run.write(stream[len(BAD) :])
         wanted = (69, b"", b"bad bulletin at 0\nldm: net fault\n")
         expect_run(run.end(), wanted, "a link that breaks before the first PUT")
-
-
-# Links that are lost
-
-
-def keep(place, held, *words, **streams):
-    """A run that connects again to a port that is held."""
-    run = Run(place, ["wmo", "-k", "-q", f"{HOST}:{port_of(held)}", *words], **streams)
-    run.begun = now()
-    COUNTS["runs"] += 1
-    return run
-
-
-def listen(held):
-    """A listener at a port that is held."""
-    listener = socket.socket()
-    listener.setsockopt(socket.SOL_SOCKET, socket.SO_REUSEADDR, 1)
-    listener.setsockopt(socket.SOL_SOCKET, socket.SO_REUSEPORT, 0)
-    listener.bind((HOST, port_of(held)))
-    listener.listen()
-    listener.settimeout(PATIENCE)
-    return listener
-
-
-def lose(peer, xid, result, how):
-    """Loses a link over which the PUT of that number came."""
-    whole = reply(xid, result)
-    if how == "reset":
-        peer.reset()
-        return
-    if how == "garbage":
-        peer.send(b"HTTP/1.0 400 Bad Request\r\n\r\n")
-    elif how == "cut":
-        peer.send(whole[:-1])
-    elif how == "of another call":
-        peer.send(reply(xid + 1, result))
-    peer.say_no_more()
-    expect(peer.next_record(), None, f"what comes behind an answer that is {how}")
-
-
-def connects_again(place):
-    """Each link begins with the first bulletin that was not answered, however the link before was lost, also where nothing was owed."""
-    bulletins = [bulletin(b"%d" % i, b"SAUS44 KWBC 01%04d" % i) for i in range(30)]
-    stream = b"".join(BAD + whole for whole in bulletins)
-    plain = Plain(stream, [answer(ADMITTED, i, 100 + i, 0) for i in range(len(bulletins))])
-    with hold_port() as held, listen(held) as listener, keep(place, held) as run:
-        feeder = threading.Thread(target=run.give, args=([stream], False))
-        feeder.start()
-        step = 0
-        for how, answered in zip(itertools.cycle(["reset", "closed", "cut", "garbage", "of another call"]), [0, 1, 3, 0, 2, 1, 5, 1, 1]):
-            with Peer(listener.accept()[0]) as peer:
-                for xid in range(1, answered + 1):
-                    hear_put(peer, xid, plain.steps[step][0], run.begun)
-                    peer.send(reply(xid, plain.steps[step][1].result))
-                    step += 1
-                hear_put(peer, answered + 1, plain.steps[step][0], run.begun)
-                lose(peer, answered + 1, plain.steps[step][1].result, how)
-        with Peer(listener.accept()[0]) as peer:
-            for xid, (product, told, written) in enumerate(plain.steps[step:], 1):
-                hear_put(peer, xid, product, run.begun)
-                expect(run.written(), written, f"the bytes of output and log before the answer to PUT {xid} of the last link")
-                peer.send(reply(xid, told.result))
-            expect_run(run.end(), (plain.status, plain.output, plain.log), "a run over ten links")
-        feeder.join()
-
-
-class Restarting(threading.Thread):
-    """A node that ends each second and starts again, and knows which products it admitted."""
-
-    def __init__(self, held, products):
-        super().__init__()
-        self.held = held
-        self.due = {product.whole()[8:] for product in products}
-        self.admitted = {}
-        self.restarts = 0
-        self.is_over = False
-
-    def run(self):
-        while not self.is_over:
-            with listen(self.held) as listener:
-                listener.settimeout(0.2)
-                self.serve(listener, time.monotonic() + 1)
-            self.restarts += 1
-            time.sleep(0.1)
-
-    def serve(self, listener, last):
-        while time.monotonic() < last and not self.is_over:
-            with contextlib.suppress(TimeoutError), Peer(listener.accept()[0]) as peer:
-                xid = 0
-                while time.monotonic() < last:
-                    content = peer.next_record()
-                    if content is None:
-                        break
-                    xid += 1
-                    # some are admitted whose answer does not come
-                    told = self.admit(content[48:])
-                    if time.monotonic() >= last and xid % 2:
-                        return
-                    peer.send(reply(xid, told.result))
-
-    def admit(self, product):
-        if product not in self.due:
-            raise Wrong(f"a product that was not due: {product[:100]!r}")
-        if product in self.admitted:
-            return answer(DUPLICATE, self.admitted[product])
-        self.admitted[product] = len(self.admitted)
-        return answer(ADMITTED, self.admitted[product], 100, 0)
-
-
-def bears_a_node_that_restarts(place):
-    """Of 10,000 bulletins that come while a node restarts each second each is admitted once, and each is answered, in order."""
-    bulletins = [bulletin(b"%d" % i, b"SAUS44 K%03d %06d" % (i % 1_000, i)) for i in range(10_000)]
-    plain = Plain(b"".join(bulletins), admissions())
-    with hold_port() as held, keep(place, held) as run:
-        node = Restarting(held, [product for product, _, _ in plain.steps])
-        node.start()
-        try:
-            run.give([b"".join(bulletins[i : i + 500]) for i in range(0, 10_000, 500)], False)
-            ran = run.end()
-        finally:
-            node.is_over = True
-            node.join()
-    answered = [line.split() for line in ran.output.splitlines()]
-    expect(len(answered), 10_000, "the answers to bulletins")
-    expect([int(line[1]) for line in answered], list(range(10_000)), "the numbers in the answers")
-    expect(len(node.admitted), 10_000, "the products that were admitted")
-    if node.restarts < 2:
-        raise Wrong(f"{node.restarts} restarts")
-    COUNTS["restarts"] += node.restarts
-
-
-def gives_up(place):
-    """It ends after so many seconds without a node, and tells where in the stream the first bulletin begins that was not answered."""
-    with hold_port() as held, keep(place, held, "-t", 2) as run:
-        run.write(GOOD)
-        before = time.monotonic()
-        expect_run(run.end(), (69, b"", refused(held)), "no node from the beginning on")
-        if not 1.9 <= time.monotonic() - before <= 20:
-            raise Wrong("it does not give up after two seconds")
-    stream = BAD + GOOD + BAD + GOOD
-    plain = Plain(stream, admissions())
-    with hold_port() as held, keep(place, held, "-t", 2) as run:
-        with listen(held) as listener, Peer(listener.accept()[0]) as peer:
-            run.write(stream)
-            hear_put(peer, 1, plain.steps[0][0], run.begun)
-            peer.send(reply(1, plain.steps[0][1].result))
-            hear_put(peer, 2, plain.steps[1][0], run.begun)
-        log = plain.log + b"stopped at %d\n" % (len(stream) - len(GOOD)) + refused(held)
-        expect_run(run.end(), (69, plain.output[: plain.steps[1][2][0]], log), "a node that does not come back")
-    with hold_port() as held, keep(place, held) as run:
-        with listen(held) as listener, Peer(listener.accept()[0]) as peer:
-            run.write(GOOD)
-            hear_put(peer, 1, plain.steps[0][0], run.begun)
-            peer.send(reply(1, DENY.result))
-            expect_run(run.end(), (78, b"", b"stopped at 0\nldm: denied\n"), "a denial")
 
 
 # What comes before what
@@ -858,7 +699,7 @@ def tells_what_fails(place):
     cases = [
         (GOOD + GOOD, ok, {"output": FULL}, 1, (75, b"", b"ldm: sink fault\n")),
         (BAD + GOOD + GOOD, ok, {"output": FULL}, 1, (75, b"", b"bad bulletin at 0\nldm: sink fault\n")),
-        (GOOD + BAD, [DENY], {"output": FULL}, 1, (78, b"", DECLINED)),
+        (GOOD + BAD, [DENY], {"output": FULL}, 1, (78, b"", b"ldm: denied\n")),
         (BAD + b"\x01", ok, {"output": FULL}, 0, (65, b"", b"bad bulletin at 0\ncut bulletin at 39\n")),
         (GOOD + BAD + GOOD, ok, {"log": FULL}, 1, (76, ok[0].line, b"")),
         (GOOD + GOOD + b"\x01", ok, {"log": FULL}, 2, (76, ok[0].line * 2, b"")),
@@ -895,9 +736,6 @@ CASES = [
     says_words,
     hears_wrong_replies,
     closes_early,
-    connects_again,
-    bears_a_node_that_restarts,
-    gives_up,
     connects_before_it_reads,
     goes_on_behind_the_answer,
     tells_what_fails,

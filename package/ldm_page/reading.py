@@ -51,7 +51,7 @@ LOG_LINES = {
     b"unreached": re.compile(rb"unreached %s" % TEXT),
     b"gap": re.compile(rb"gap %s %s %s %s" % (TEXT, NUMBER, NUMBER, NUMBER)),
     b"refused": re.compile(rb"refused %s (%s)(?: %s){0,2}" % (TEXT, REFUSALS, NUMBER)),
-    b"journal": re.compile(rb"journal (fault|changed|memory|calls|numbers)"),
+    b"journal": re.compile(rb"journal (fault|changed)"),
     b"Suppressed": re.compile(rb"Suppressed %s messages from ([!-~]{1,255})" % NUMBER),
     b"unwanted": re.compile(rb"unwanted %s" % TEXT),
     b"nodate": re.compile(rb"nodate %s %s" % (TEXT, NUMBER)),

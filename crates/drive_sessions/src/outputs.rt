@@ -1,7 +1,7 @@
 //! Actions that are carried out over a store and a launcher in memory.
 ghost use Rattle.ldm_outside_memory.specs.MemLauncher.{told_by_launcher};
 ghost use Rattle.ldm_outside_memory.specs.MemStore.{told_by_store};
-ghost use Rattle.ldm_actions.specs.Outputs.{BeginsHand, HasHand, KeepsAll, standing};
+ghost use Rattle.ldm_actions.specs.Outputs.{BeginsHand, HasHand, KeepsUnlessSpent, standing};
 
 use crate::steps::{Step, step_in};
 use ldm_actions::{Action, Begun, Done, Outputs};
@@ -33,8 +33,8 @@ fn begin<F: Store, L: Launcher>(
     launcher: &mut L,
     action: &Action,
 ) -> Begun
-    requires { KeepsAll (standing outputs.old (F.tells store.old) (L.tells launcher.old)) }
-    ensures keeps { KeepsAll (standing outputs.new (F.tells store.new) (L.tells launcher.new)) }
+    requires { KeepsUnlessSpent (standing outputs.old (F.tells store.old) (L.tells launcher.old)) }
+    ensures keeps { KeepsUnlessSpent (standing outputs.new (F.tells store.new) (L.tells launcher.new)) }
     ensures in_hand { BeginsHand result outputs.new }
 {
     let begun = outputs.begin(store, launcher, action);
@@ -55,9 +55,9 @@ fn give<F: Store, L: Launcher>(
     launcher: &mut L,
     pieces: &str,
 )
-    requires keeps { KeepsAll (standing outputs.old (F.tells store.old) (L.tells launcher.old)) }
+    requires keeps { KeepsUnlessSpent (standing outputs.old (F.tells store.old) (L.tells launcher.old)) }
     requires in_hand { HasHand outputs.old }
-    ensures keeps { KeepsAll (standing outputs.new (F.tells store.new) (L.tells launcher.new)) }
+    ensures keeps { KeepsUnlessSpent (standing outputs.new (F.tells store.new) (L.tells launcher.new)) }
     ensures in_hand { HasHand outputs.new }
 {
     for piece in pieces.split(',') {
@@ -75,8 +75,8 @@ fn carry_out<F: Store, L: Launcher>(
     launcher: &mut L,
     step: &Step,
 )
-    requires { KeepsAll (standing outputs.old (F.tells store.old) (L.tells launcher.old)) }
-    ensures { KeepsAll (standing outputs.new (F.tells store.new) (L.tells launcher.new)) }
+    requires { KeepsUnlessSpent (standing outputs.old (F.tells store.old) (L.tells launcher.old)) }
+    ensures { KeepsUnlessSpent (standing outputs.new (F.tells store.new) (L.tells launcher.new)) }
 {
     if begin(trial, outputs, store, launcher, &step.action) == Begun::OutOfMemory {
         return;
@@ -95,8 +95,8 @@ fn take_step<F: Store, L: Launcher>(
     store: &mut F,
     launcher: &mut L,
 )
-    requires { KeepsAll (standing outputs.old (F.tells store.old) (L.tells launcher.old)) }
-    ensures { KeepsAll (standing outputs.new (F.tells store.new) (L.tells launcher.new)) }
+    requires { KeepsUnlessSpent (standing outputs.old (F.tells store.old) (L.tells launcher.old)) }
+    ensures { KeepsUnlessSpent (standing outputs.new (F.tells store.new) (L.tells launcher.new)) }
 {
     let word = trial.word();
     if word == "close" {
@@ -116,7 +116,7 @@ fn take_steps(
     store: &mut MemStore,
     launcher: &mut MemLauncher,
 )
-    requires { KeepsAll (standing outputs.old (told_by_store store.old) (told_by_launcher launcher.old)) }
+    requires { KeepsUnlessSpent (standing outputs.old (told_by_store store.old) (told_by_launcher launcher.old)) }
 {
     for _ in 0..MOST_STEPS {
         if trial.is_done() || trial.is_refused() {

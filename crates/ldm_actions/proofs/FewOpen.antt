@@ -58,16 +58,15 @@ module _ (old new : Standing) where
       new.outputs.spent ≡ Some fault.Store → OpensFew new
   few_store_stops IsPart stops only spent = few_of_spent fault.Store spent (stops.few_open only)
 
-  few_launcher_stops : (IsPart : Outside → Type 0) (AreLeft : List Entry → Type 0) (store : StoreRecord) →
-      LauncherStops IsPart AreLeft store (kept_by old) (kept_by new) → length store.paths ≤ MOST_OPEN →
-      new.outputs.spent ≡ Some fault.Launch → OpensFew new
-  few_launcher_stops IsPart AreLeft store stops few spent =
+  few_launcher_stops : (IsPart : Outside → Type 0) (store : StoreRecord) → LauncherStops IsPart store (kept_by old) (kept_by new) →
+      length store.paths ≤ MOST_OPEN → new.outputs.spent ≡ Some fault.Launch → OpensFew new
+  few_launcher_stops IsPart store stops few spent =
       few_of_spent fault.Launch spent (omega (arith, few, ap (λ (s : StoreRecord). length s.paths) stops.store_now))
 
   begins_anew : (result : Begun) (action : Action) → old.outputs.spent ≡ None → BeginsBy None result action old new → OpensFew old → OpensFew new
   begins_anew answer.Ready action unspent it few = few_becomes _ _ it.0.0 (few.only_kept unspent)
-  begins_anew answer.StoreFault action unspent it few = few_store_stops _ it.0 (few.only_kept unspent) it.1.spent
-  begins_anew answer.LaunchFault action unspent it few = few_launcher_stops _ _ _ it.0 few.few it.1.spent
+  begins_anew answer.StoreFault action unspent it few = few_store_stops _ it.0 (few.only_kept unspent) it.1
+  begins_anew answer.LaunchFault action unspent it few = few_launcher_stops _ _ it.0 few.few it.1
   begins_anew answer.OutOfMemory action unspent it few = few_same it.1 few
 
   begins_by : (result : Begun) (action : Action) (spent : Option Fault) → old.outputs.spent ≡ spent → BeginsBy spent result action old new → OpensFew old → OpensFew new
@@ -79,8 +78,8 @@ module _ (old new : Standing) where
 
   gives_on : (result : Done) (hand : InHand) (bytes : List ℕ) → old.outputs.spent ≡ None → GivesBy None (Some hand) result bytes old new → OpensFew old → OpensFew new
   gives_on done.Ok hand bytes unspent it few = few_becomes _ _ it.0.0 (few.only_kept unspent)
-  gives_on done.StoreFault hand bytes unspent it few = few_store_stops _ it.0 (few.only_kept unspent) it.1.spent
-  gives_on done.LaunchFault hand bytes unspent it few = few_launcher_stops _ _ _ it.0 few.few it.1.spent
+  gives_on done.StoreFault hand bytes unspent it few = few_store_stops _ it.0 (few.only_kept unspent) it.1
+  gives_on done.LaunchFault hand bytes unspent it few = few_launcher_stops _ _ it.0 few.few it.1
 
   gives_by : (result : Done) (bytes : List ℕ) (spent : Option Fault) (hand : Option InHand) → old.outputs.spent ≡ spent → GivesBy spent hand result bytes old new →
       OpensFew old → OpensFew new
@@ -93,8 +92,8 @@ module _ (old new : Standing) where
 
   finishes_on : (result : Done) (hand : InHand) → old.outputs.spent ≡ None → FinishesBy None (Some hand) result old new → OpensFew old → OpensFew new
   finishes_on done.Ok hand unspent it few = few_becomes _ _ it.0.0 (few.only_kept unspent)
-  finishes_on done.StoreFault hand unspent it few = few_store_stops _ it.0 (few.only_kept unspent) it.1.spent
-  finishes_on done.LaunchFault hand unspent it few = few_launcher_stops _ _ _ it.0 few.few it.1.spent
+  finishes_on done.StoreFault hand unspent it few = few_store_stops _ it.0 (few.only_kept unspent) it.1
+  finishes_on done.LaunchFault hand unspent it few = few_launcher_stops _ _ it.0 few.few it.1
 
   finishes_by : (result : Done) (spent : Option Fault) (hand : Option InHand) → old.outputs.spent ≡ spent → FinishesBy spent hand result old new → OpensFew old →
       OpensFew new
@@ -107,9 +106,9 @@ module _ (old new : Standing) where
 
   closes_anew : (result : Done) → old.outputs.spent ≡ None → ClosesBy None result old new → OpensFew old → OpensFew new
   closes_anew done.Ok unspent it few = few_becomes _ _ it.0.0 (few.only_kept unspent)
-  closes_anew done.StoreFault unspent it few = few_store_stops _ it.0 (few.only_kept unspent) it.1.spent
+  closes_anew done.StoreFault unspent it few = few_store_stops _ it.0 (few.only_kept unspent) it.1
   closes_anew done.LaunchFault unspent it few =
-      few_launcher_stops _ _ _ it.0 (omega (arith, few.few, no_more_shut old.outputs.files old.store)) it.1.spent
+      few_launcher_stops _ _ it.0 (omega (arith, few.few, no_more_shut old.outputs.files old.store)) it.1
 
   closes_by : (result : Done) (spent : Option Fault) → old.outputs.spent ≡ spent → ClosesBy spent result old new → OpensFew old → OpensFew new
   closes_by result None is it few = closes_anew result is it few

@@ -13,10 +13,10 @@ use Rattle.ldm_outside.specs.Numbered.{with_number, without_number}
 use Rattle.std.proofs.lemmas.Bool.Decides.{nat_tests}
 use Rattle.ldm_outside.specs.Store.{File, ChangesFile, FlushesFile, IsOpen, IsThere, OpensFile, ShutsFile, StoreFails, StoreRecord, bytes_under, path_of, with_changed, with_file, with_flushed, with_made, with_opened}
 use Rattle.ldm_outside.proofs.NumberLemmas.{at-with, at-with-others, at-without-others}
-use Rattle.ldm_outside.proofs.StoreLemmas.{IsOpen-before, IsOpen-changes, IsOpen-fails, IsOpen-last, IsOpen-others}
+use Rattle.ldm_outside.proofs.StoreLemmas.{IsOpen-before, IsOpen-changes, IsOpen-last, IsOpen-others}
 use Rattle.ldm_actions.specs.declared.limits.TheConstants.{MOST_OPEN}
 use Rattle.ldm_actions.specs.Kept.{Differs, Each, IsNewest, first_of, gone_of, last_of, number_under, raised, raised_by, staying}
-use Rattle.ldm_actions.specs.OpenFiles.{FileSide, FilesBecome, FilesFail, ForgetsFirst, IsOpenUnder, KeepsFiles, KeepsOr, OpensAfter, ShutsGone, all_shut, file_no, file_side, files_begun, files_made, flushed_in, shut_in, store_begun, store_emptied, store_used, store_used_by, store_with_room, used, used_by, with_gone_shut, with_room_open}
+use Rattle.ldm_actions.specs.OpenFiles.{FileSide, FilesBecome, FilesFail, IsOpenUnder, KeepsFiles, KeepsOr, OpensAfter, ShutsGone, all_shut, file_no, file_side, files_begun, files_made, flushed_in, shut_in, store_begun, store_emptied, store_used, store_used_by, store_with_room, used, used_by, with_gone_shut, with_room_open}
 use Rattle.ldm_actions.proofs.Commands.{one_less}
 use Rattle.ldm_actions.proofs.KeptLemmas.{Entry, HasRoom, IsFull, apart_found, apart_front, apart_last, differs_under, each_both, each_found, each_front, each_gone, each_last, each_then, last_is, last_part, not_under_front, room_or_full, take_front}
 
@@ -36,22 +36,6 @@ one_shut : (it : Entry) (old new : StoreRecord) → new ≡ record old { paths =
     length new.paths + 1 ≡ length old.paths
 one_shut it old new is was =
     ap (λ (store : StoreRecord). length store.paths + 1) is ∙ one_less (is_at (nat_cmp it.1)) old.paths it.0 was.under
-
--- what is kept but the last is kept
-keeps_front : (it : Entry) (kept : List Entry) (store : StoreRecord) → KeepsFiles (file_side (kept ++ it ∷ []) store) → KeepsFiles (file_side kept store)
-keeps_front it kept store keeps = record {
-  are_open = each_front (IsOpenUnder store) kept (it ∷ []) keeps.are_open;
-  apart = apart_front kept it keeps.apart;
-  few = omega (arith, keeps.few, length-append kept (it ∷ []));
-}
-
--- and so is what is kept but the first
-keeps_rest : (it : Entry) (kept : List Entry) (store : StoreRecord) → KeepsFiles (file_side (it ∷ kept) store) → KeepsFiles (file_side kept store)
-keeps_rest it kept store keeps = record {
-  are_open = keeps.are_open.1;
-  apart = keeps.apart.1;
-  few = omega (arith, keeps.few);
-}
 
 -- a store that failed has as many files open as before
 few_after_fault : (kept : List Entry) (old new : StoreRecord) → StoreFails old new → length kept ≤ MOST_OPEN → length old.paths ≤ length kept →
@@ -90,20 +74,6 @@ module _ (old new : StoreRecord) where
   opened_last file path number is = record {
     is_open = IsOpen-last (file_no file) path old new number is;
     under = ap (λ (store : StoreRecord). path_of (file_no file) store) is ∙ ap (λ (n : ℕ). path_of (file_no n) (with_opened path old)) number ∙ at-with old.next path old.paths;
-  }
-
-  -- where the store fails
-  failed_still : StoreFails old new → (it : Entry) → IsOpenUnder old it → IsOpenUnder new it
-  failed_still fails it was = record {
-    is_open = IsOpen-fails (file_no it.1) old new fails was.is_open;
-    under = ap (λ (store : StoreRecord). path_of (file_no it.1) store) fails.1 ∙ was.under;
-  }
-
-  pub keeps_failed : (kept : List Entry) → StoreFails old new → KeepsFiles (file_side kept old) → KeepsFiles (file_side kept new)
-  keeps_failed kept fails keeps = record {
-    are_open = each_then (IsOpenUnder old) (IsOpenUnder new) (failed_still fails) kept keeps.are_open;
-    apart = keeps.apart;
-    few = keeps.few;
   }
 
   -- and where one is flushed
@@ -183,7 +153,6 @@ shuts_oldest (Err failed) it kept old new fails keeps = record {
   files_now = ap (λ (store : StoreRecord). store.files) fails.1;
   few_open = few_after_fault (kept ++ it ∷ []) old new fails keeps.few;
   long = ap (λ (store : StoreRecord). store.long) fails.1;
-  keeps = keeps_failed old new kept fails (keeps_front it kept old keeps);
 }
 
 opens_new : (path : List ℕ) (file : ℕ) (kept : List Entry) (old new : StoreRecord) → number_under path kept ≡ None → length kept < MOST_OPEN →
@@ -285,7 +254,6 @@ fails_then kept files store old mid new first fails = record {
   rose = subst (λ (faults : ℕ). Rose faults new.store.faults) first.faults fails.rose;
   files_now = fails.files_now ∙ first.files_now;
   long = fails.long ∙ first.long;
-  keeps = fails.keeps;
 }
 
 -- ---- the file of a path is opened that is not kept, and another is shut where there is no room
@@ -357,47 +325,29 @@ opens_reserved path file kept now old new unknown keeps is kept_now =
     (sym unknown)
     all)
 
--- the store failed, and some of what was kept is kept still
-store_failed : (kept left : List Entry) (old new : StoreRecord) → StoreFails old new → length kept ≤ MOST_OPEN → KeepsFiles (file_side left old) →
+-- the store failed, and what is kept then makes no difference
+store_failed : (kept left : List Entry) (old new : StoreRecord) → StoreFails old new → length kept ≤ MOST_OPEN →
     FilesFail old.files (file_side kept old) (file_side left new)
-store_failed kept left old new fails few keeps = record {
+store_failed kept left old new fails few = record {
   rose = fails.0;
   files_now = ap (λ (store : StoreRecord). store.files) fails.1;
   few_open = few_after_fault kept old new fails few;
   long = ap (λ (store : StoreRecord). store.long) fails.1;
-  keeps = keeps_failed old new left fails keeps;
 }
 
 gone_failed : (failed : Failed) (gone : Option ℕ) (old new : StoreRecord) → ShutsGone gone (Err failed) old new → StoreFails old new
 gone_failed failed None old new shuts = absurd (cc shuts.0)
 gone_failed failed (Some number) old new shuts = shuts
 
--- those that stay are kept, even where the oldest could not be shut
-keeps_staying : (kept : List Entry) (store : StoreRecord) → KeepsFiles (file_side kept store) → KeepsFiles (file_side (staying kept) store)
-keeps_staying kept store keeps = by_room (room_or_full kept keeps.few)
-  where
-    by_room : HasRoom kept ⊎ IsFull kept → KeepsFiles (file_side (staying kept) store)
-    by_room (inl few) = subst (λ (left : List Entry). KeepsFiles (file_side left store)) (sym few.1) keeps
-    by_room (inr full) =
-        subst (λ (left : List Entry). KeepsFiles (file_side left store)) (sym full.3)
-        (keeps_front full.1 full.0 store (subst (λ (all : List Entry). KeepsFiles (file_side all store)) full.2 keeps))
-
 -- it was reserved, and the store failed
-fails_reserved : (failed : Failed) (path : List ℕ) (kept : List Entry) (old new : StoreRecord) → KeepsFiles (file_side kept old) →
-    OpensAfter (Err failed) (gone_of kept) path old new → FilesFail old.files (file_side kept old) (file_side (staying kept) new)
-fails_reserved failed path kept old new keeps (inl shuts) =
-    store_failed kept (staying kept) old new (gone_failed failed (gone_of kept) old new shuts) keeps.few (keeps_staying kept old keeps)
-fails_reserved failed path kept old new keeps (inr fails) =
+pub opens_failed : (failed : Failed) (path : List ℕ) (kept now : List Entry) (old new : StoreRecord) → KeepsFiles (file_side kept old) →
+    OpensAfter (Err failed) (gone_of kept) path old new → FilesFail old.files (file_side kept old) (file_side now new)
+opens_failed failed path kept now old new keeps (inl shuts) = store_failed kept now old new (gone_failed failed (gone_of kept) old new shuts) keeps.few
+opens_failed failed path kept now old new keeps (inr fails) =
     let mid = file_side (staying kept) (with_gone_shut (gone_of kept) old) in
     let room = room_shut kept old keeps in
-    fails_then (with_room_open kept) old.files (store_with_room kept old) (file_side kept old) mid (file_side (staying kept) new) room.0
-    (store_failed (staying kept) (staying kept) mid.store new fails room.0.keeps.few room.0.keeps)
-
-pub opens_failed : (failed : Failed) (path : List ℕ) (kept now : List Entry) (old new : StoreRecord) → KeepsFiles (file_side kept old) →
-    OpensAfter (Err failed) (gone_of kept) path old new → now ≡ staying kept → FilesFail old.files (file_side kept old) (file_side now new)
-opens_failed failed path kept now old new keeps is kept_now =
-    subst (λ (left : List Entry). FilesFail old.files (file_side kept old) (file_side left new)) (sym kept_now)
-    (fails_reserved failed path kept old new keeps is)
+    fails_then (with_room_open kept) old.files (store_with_room kept old) (file_side kept old) mid (file_side now new) room.0
+    (store_failed (staying kept) now mid.store new fails room.0.keeps.few)
 
 -- what goes is open
 pub gone_open : (kept : List Entry) (store : StoreRecord) → KeepsFiles (file_side kept store) →
@@ -463,19 +413,6 @@ begins_anew overwrite path it old mid new is uses newest empties =
     (sym (is_anew overwrite is))
     (begins_empty path it old mid new uses newest empties)
 
--- it could not be emptied
-pub begins_unemptied : (overwrite : Bool) (path : List ℕ) (old mid : FileSide) (new : StoreRecord) → not overwrite ≡ false →
-    FilesBecome (used path old.store.next old.kept) (files_made path old.store.files) (store_used path old.kept old.store) old mid →
-    StoreFails mid.store new →
-    FilesFail old.store.files old (file_side mid.kept new)
-    ⊎ ((overwrite ≡ true) × FilesFail (files_made path old.store.files) old (file_side mid.kept new))
-begins_unemptied overwrite path old mid new is uses fails = inr (
-  is_anew overwrite is,
-  fails_then (used path old.store.next old.kept) (files_made path old.store.files) (store_used path old.kept old.store) old mid (file_side mid.kept new)
-      uses
-      (store_failed mid.kept mid.kept mid.store new fails uses.keeps.few uses.keeps),
-)
-
 pub shuts_newest : (result : Result (Unit {0}) Failed) (it : Entry) (kept : List Entry) (old new : StoreRecord) →
     ShutsFile result (file_no it.1) old new → KeepsFiles (file_side (it ∷ kept) old) →
     KeepsOr result (drop 1 (it ∷ kept)) (shut_in (first_of (it ∷ kept)) old) (file_side (it ∷ kept) old) (file_side kept new)
@@ -496,34 +433,6 @@ shuts_newest (Err failed) it kept old new fails keeps = record {
   files_now = ap (λ (store : StoreRecord). store.files) fails.1;
   few_open = few_after_fault (it ∷ kept) old new fails keeps.few;
   long = ap (λ (store : StoreRecord). store.long) fails.1;
-  keeps = keeps_failed old new kept fails (keeps_rest it kept old keeps);
-}
-
--- the newest is kept no more, whether it could be shut or not
-loses_first : (result : Result (Unit {0}) Failed) (it : Entry) (kept : List Entry) (old new : StoreRecord) →
-    ShutsFile result (file_no it.1) old new → old.faults ≤ new.faults → KeepsFiles (file_side (it ∷ kept) old) →
-    ForgetsFirst (file_side (it ∷ kept) old) (file_side kept new)
-loses_first (Ok ok) it kept old new is faults keeps =
-    let step = shuts_newest (Ok ok) it kept old new is keeps in
-    record { kept_now = refl; files_now = step.0.files_now; faults = faults; keeps = step.0.keeps }
-loses_first (Err failed) it kept old new fails faults keeps =
-    let step = shuts_newest (Err failed) it kept old new fails keeps in
-    record { kept_now = refl; files_now = step.files_now; faults = faults; keeps = step.keeps }
-
-pub forgets_first : (result : Result (Unit {0}) Failed) (it : Entry) (all kept : List Entry) (old new : StoreRecord) → all ≡ it ∷ kept →
-    ShutsFile result (file_no it.1) old new → old.faults ≤ new.faults → KeepsFiles (file_side all old) →
-    ForgetsFirst (file_side all old) (file_side kept new)
-forgets_first result it all kept old new is shuts faults keeps =
-    subst (λ (entries : List Entry). KeepsFiles (file_side entries old) → ForgetsFirst (file_side entries old) (file_side kept new)) (sym is)
-    (loses_first result it kept old new shuts faults) keeps
-
-pub forgets_none : (all kept : List Entry) (store : StoreRecord) → all ≡ [] → kept ≡ [] → KeepsFiles (file_side all store) →
-    ForgetsFirst (file_side all store) (file_side kept store)
-forgets_none all kept store none still keeps = record {
-  kept_now = still ∙ sym (ap (drop 1) none);
-  files_now = refl;
-  faults = omega arith;
-  keeps = subst (λ (entries : List Entry). KeepsFiles (file_side entries store)) (none ∙ sym still) keeps;
 }
 
 -- nothing is shut where nothing is kept
@@ -558,7 +467,6 @@ flushes_first (Err failed) it others old new fails keeps = record {
   files_now = ap (λ (store : StoreRecord). store.files) fails.1;
   few_open = few_after_fault (it ∷ others) old new fails keeps.few;
   long = ap (λ (store : StoreRecord). store.long) fails.1;
-  keeps = keeps_failed old new (it ∷ others) fails keeps;
 }
 
 pub flushes_newest : (result : Result (Unit {0}) Failed) (it : Entry) (kept : List Entry) (old new : StoreRecord) → IsNewest it kept →

@@ -7,7 +7,7 @@ use Rattle.std.proofs.lemmas.Bool.{cases_lt, false≢true}
 use Rattle.std.proofs.lemmas.List.{take_all}
 use Rattle.std.proofs.lemmas.Option.{slice_get_past}
 use Rattle.std.proofs.lemmas.Slice.Eq.{bytes_eq-Decides}
-use Rattle.ldm_actions.specs.Kept.{AreApart, Differs, Each, IsNewest, TakesNewest, TakesOldest, first_of, gone_of, last_of, number_of, number_under, raised, raised_by, staying}
+use Rattle.ldm_actions.specs.Kept.{AreApart, Differs, Each, IsNewest, TakesOldest, first_of, gone_of, last_of, number_of, number_under, raised, raised_by, staying}
 
 abbrev pub Entry : Type 0
 Entry = List ℕ × ℕ
@@ -146,12 +146,6 @@ numbered name number other kept reserved new is set =
     set
     ∙ ap (λ (all : List Entry). set_value (bytes_eq name) all number) is
     ∙ ap (λ (b : Bool). cond b ((name, number) ∷ kept) ((name, other) ∷ set_value (bytes_eq name) kept number)) equal
-
--- the newest entry, which had no number, was taken out again
-pub taken_back : (first : Entry) (others reserved now : List Entry) (result : Option ℕ) → reserved ≡ first ∷ others → TakesNewest result reserved now →
-    now ≡ others
-taken_back first others reserved now None is takes = absurd (cc (is, takes.0))
-taken_back first others reserved now (Some number) is takes = cc (is, takes.1)
 
 -- ---- the newest and the oldest
 

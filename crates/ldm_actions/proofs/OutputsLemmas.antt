@@ -1,5 +1,5 @@
 -- What a step of all that is kept is to outputs.
-use Rattle.std.proofs.Common.{◌≡◌, ◌∙◌, ℕ, List, ◌∷◌, Option, Some, None, refl, sym, ap, subst, arith}
+use Rattle.std.proofs.Common.{◌≡◌, ◌∙◌, ℕ, List, ◌∷◌, Option, Some, None, refl, sym, ap, subst}
 use Rattle.std.specs.Prelude.{string_bytes}
 use Rattle.ldm_outside.specs.Launcher.{LauncherRecord}
 use Rattle.ldm_outside.specs.Store.{StoreRecord}
@@ -10,10 +10,10 @@ use Rattle.ldm_actions.specs.declared.answers.Begun.TheVariants as answer
 use Rattle.ldm_actions.specs.declared.answers.Fault.{Fault}
 use Rattle.ldm_actions.specs.declared.hand.Hand.{Hand}
 use Rattle.ldm_actions.specs.Effects.{File as FileTarget, begun, in_hand, piped_by, runs_under}
-use Rattle.ldm_actions.specs.Hands.{action_of, hand_of, hand_seen, newest_path, seen_with}
+use Rattle.ldm_actions.specs.Hands.{action_of, hand_of, newest_path, seen_with}
 use Rattle.ldm_actions.specs.Kept.{IsNewest, number_under}
 use Rattle.ldm_actions.specs.OpenFiles.{used_by}
-use Rattle.ldm_actions.specs.Outputs.{Begins, BeginsBy, BeginsHand, BeginsKept, GoesAhead, HasHand, IsOfKept, Kept, KeepsAll, MendsHand, MendsKept, OutputsView, kept_in, outputs_view, standing, world_of}
+use Rattle.ldm_actions.specs.Outputs.{Begins, BeginsBy, BeginsHand, BeginsKept, HasHand, IsOfKept, Kept, KeepsUnlessSpent, OutputsView, kept_in, outputs_view, standing, world_of}
 use Rattle.ldm_actions.specs.World.{World, command_of}
 use Rattle.ldm_actions.proofs.KeptLemmas.{Entry}
 
@@ -78,8 +78,8 @@ module _ (files piped files' piped' : List Entry) (hand : Option Hand) (spent : 
       (becomes, record { in_hand = ap (λ h. Some h) (begun_is_seen action old new becomes); unspent = refl })
 
   pub keeps_ready : (action : Given) → BeginsKept answer.Ready (action_of action) old new →
-      KeepsAll (standing (outputs_view files' piped' (Some (hand_of action)) spent) store' launcher')
-  keeps_ready action becomes = record { kept = becomes.0.keeps; hand = begun_is_kept action old new becomes }
+      KeepsUnlessSpent (standing (outputs_view files' piped' (Some (hand_of action)) spent) store' launcher')
+  keeps_ready action becomes = λ _. record { kept = becomes.0.keeps; hand = begun_is_kept action old new becomes }
 
 module _ (outputs : OutputsView) (which : Fault) (spent : outputs.spent ≡ Some which) where
   -- one that is spent needs no action in hand
@@ -91,24 +91,3 @@ module _ (outputs : OutputsView) (which : Fault) (spent : outputs.spent ≡ Some
   begins_spent answer.StoreFault = has_spent
   begins_spent answer.LaunchFault = has_spent
   begins_spent answer.OutOfMemory = tt
-
--- ---- what the action in hand left is mended
-module _ (files piped files' piped' : List Entry) (hand : Option Hand) (spent : Option Fault) (store store' : StoreRecord)
-    (launcher launcher' : LauncherRecord) where
-  pub mends_in_hand : (it : Hand) → hand ≡ Some it →
-      MendsKept (seen_with files it).target (kept_in files piped store launcher) (kept_in files' piped' store' launcher') →
-      GoesAhead (standing (outputs_view files piped hand spent) store launcher) (standing (outputs_view files' piped' None None) store' launcher')
-  mends_in_hand it is mends = record {
-    mends = subst (λ (h : Option Hand). MendsHand (hand_seen h files) (kept_in files piped store launcher) (kept_in files' piped' store' launcher')) (sym is)
-        mends.mends;
-    none_in_hand = record { in_hand = refl; unspent = refl };
-    counts = mends.counts;
-  }
-
-  pub mends_none : hand ≡ None →
-      GoesAhead (standing (outputs_view files piped hand spent) store launcher) (standing (outputs_view files piped hand None) store launcher)
-  mends_none is = record {
-    mends = subst (λ (h : Option Hand). MendsHand (hand_seen h files) (kept_in files piped store launcher) (kept_in files piped store launcher)) (sym is) refl;
-    none_in_hand = record { in_hand = ap (λ (h : Option Hand). hand_seen h files) is; unspent = refl };
-    counts = record { store = omega arith; launcher = omega arith };
-  }

@@ -1,5 +1,5 @@
 -- What the launcher does to the programs that run under PIPE.
-use Rattle.std.proofs.Common.{◌≡◌, ◌≢◌, ◌∙◌, ℕ, ◌-◌, ◌<◌, ◌≤◌, ◌⊎◌, inl, inr, Bool, true, false, cond, List, [], ◌∷◌, ◌++◌, drop, length, take, Option, Some, None, Result, Ok, Err, refl, sym, ap, subst, arith, append_assoc, length-append, length-take}
+use Rattle.std.proofs.Common.{◌≡◌, ◌≢◌, ◌∙◌, ℕ, ◌-◌, ◌<◌, ◌≤◌, ◌⊎◌, inl, inr, Bool, true, false, cond, List, [], ◌∷◌, ◌++◌, length, take, Option, Some, None, Result, Ok, Err, refl, sym, ap, subst, arith, append_assoc, length-append, length-take}
 use Rattle.std.specs.Prelude.{IfSome, bytes_eq, nat_lt, String}
 use Rattle.std.specs.Map.{remove_entry}
 use Rattle.std.specs.declared.alloc.Global.{Global}
@@ -9,57 +9,15 @@ use Rattle.ldm_outside.specs.declared.fault.Failed.{Failed}
 use Rattle.ldm_outside.specs.declared.launcher.ChildNo.{ChildNo}
 use Rattle.ldm_outside.specs.Launcher.{IsTaking, LauncherFails, LauncherRecord, spelled, with_started}
 use Rattle.ldm_outside.specs.Store.{File}
-use Rattle.ldm_outside.proofs.StoreLemmas.{IsTaking-before, IsTaking-detached, IsTaking-fails, IsTaking-last, IsTaking-others, IsTaking-waited}
+use Rattle.ldm_outside.proofs.StoreLemmas.{IsTaking-before, IsTaking-last, IsTaking-others, IsTaking-waited}
 use Rattle.ldm_actions.specs.declared.limits.TheConstants.{MOST_PIPED}
 use Rattle.ldm_actions.specs.Effects.{all_over, closed, ended, piped_by, with_first_over, with_new, with_room}
 use Rattle.ldm_actions.specs.Kept.{Differs, gone_of, last_of, number_under, raised, raised_by, staying}
 use Rattle.ldm_actions.specs.Parts.{all_over_parts, over_parts, pipe_parts, room_parts}
-use Rattle.ldm_actions.specs.Programs.{ChangesOr, EndsChild, EndsGone, Executes, FailsAndLetsGo, IsOneOf, KeepsPrograms, LeavesPrograms, ProgramSide, ProgramsBecome, ProgramsFail, StartsAfter, StartsProgram, WaitsOrLetsGo, by_program, by_program_parts, closing_parts, first_parts, last_parts, others_than, outside_with, program_side, with_child_gone, with_child_over, with_executed, with_gone_over, with_input_closed, with_last_over, world_with}
+use Rattle.ldm_actions.specs.Programs.{ChangesOr, EndsChild, EndsGone, IsOneOf, KeepsPrograms, ProgramSide, ProgramsBecome, ProgramsFail, StartsAfter, StartsProgram, by_program, by_program_parts, closing_parts, first_parts, last_parts, outside_with, program_side, with_child_over, with_gone_over, with_input_closed, with_last_over, world_with}
 use Rattle.ldm_actions.specs.World.{Outside, World, child_no, command_of, input_shut, over}
 use Rattle.ldm_actions.proofs.Commands.{one_less}
 use Rattle.ldm_actions.proofs.KeptLemmas.{Entry, HasRoom, IsFull, apart_found, apart_front, apart_last, differs_under, each_both, each_found, each_front, each_gone, each_then, last_is, last_part, not_under_front, room_or_full, take_front}
-
--- ---- a child is ended, or waited for
-
--- it was let go where a call had failed
-pub lets_go : (child : ChildNo) (old mid new : LauncherRecord) → LauncherFails old mid → new ≡ with_child_gone child mid → FailsAndLetsGo child old new
-lets_go child old mid new fails is = (mid, fails, is)
-
-pub ends_unshut : (failed : Failed) (child : ChildNo) (old mid new : LauncherRecord) → LauncherFails old mid → new ≡ with_child_gone child mid →
-    EndsChild (Err failed) child old new
-ends_unshut failed child old mid new fails is = inl (mid, fails, is)
-
-pub ends_waited : (result : Result (Unit {0}) Failed) (child : ChildNo) (old mid new : LauncherRecord) → mid ≡ with_input_closed child old →
-    WaitsOrLetsGo result child mid new → EndsChild result child old new
-ends_waited (Ok ok) child old mid new is waits = waits ∙ ap (with_child_over child) is
-ends_waited (Err failed) child old mid new is fails = inr (subst (λ (launcher : LauncherRecord). FailsAndLetsGo child launcher new) is fails)
-
--- a program was started, and waited for
-pub executes_waited : (result : Result (Unit {0}) Failed) (words : List (List ℕ)) (wait : Bool) (child : ChildNo) (old mid new : LauncherRecord) →
-    wait ≡ true → StartsProgram (Ok child) words false old mid → WaitsOrLetsGo result child mid new → Executes result words wait old new
-executes_waited (Ok ok) words wait child old mid new is starts waits = (
-  starts.0,
-  starts.1,
-  subst (λ (b : Bool). new ≡ with_executed b (child_no old.next) (with_started starts.0 false old)) (sym is)
-      (waits ∙ ap (with_child_over child) starts.2.1 ∙ ap (λ (n : ℕ). with_child_over (child_no n) (with_started starts.0 false old)) starts.2.0),
-)
-executes_waited (Err failed) words wait child old mid new is starts fails = inr (
-  starts.0,
-  starts.1,
-  is,
-  subst (λ (launcher : LauncherRecord). FailsAndLetsGo (child_no old.next) launcher new) starts.2.1
-      (subst (λ (n : ℕ). FailsAndLetsGo (child_no n) mid new) starts.2.0 fails),
-)
-
--- or let go
-pub executes_detached : (words : List (List ℕ)) (wait : Bool) (child : ChildNo) (old mid new : LauncherRecord) → wait ≡ false →
-    StartsProgram (Ok child) words false old mid → new ≡ with_child_gone child mid → Executes (Ok tt) words wait old new
-executes_detached words wait child old mid new is starts gone = (
-  starts.0,
-  starts.1,
-  subst (λ (b : Bool). new ≡ with_executed b (child_no old.next) (with_started starts.0 false old)) (sym is)
-      (gone ∙ ap (with_child_gone child) starts.2.1 ∙ ap (λ (n : ℕ). with_child_gone (child_no n) (with_started starts.0 false old)) starts.2.0),
-)
 
 module _ (old new : LauncherRecord) where
   -- a child takes bytes still where another was ended
@@ -71,34 +29,19 @@ module _ (old new : LauncherRecord) where
       IsTaking-waited (child_no it.1) (child_no other.1) mid new differ is
       (IsTaking-others (child_no it.1) (child_no other.1) old mid differ refl taking)
 
-  -- or was let go, since the launcher had failed
-  pub taking_behind : (other : ℕ) (mid : LauncherRecord) → FailsAndLetsGo (child_no other) mid new → (it : Entry) → it.1 ≢ other →
-      IsTaking (child_no it.1) mid → IsTaking (child_no it.1) new
-  taking_behind other mid fails it differ taking =
-      IsTaking-detached (child_no it.1) (child_no other) fails.0 new differ fails.2 (IsTaking-fails (child_no it.1) mid fails.0 fails.1 taking)
-
-  taking_still : (result : Result (Unit {0}) Failed) (other : Entry) → EndsChild result (child_no other.1) old new → (it : Entry) → Differs other it →
-      IsTaking (child_no it.1) old → IsTaking (child_no it.1) new
-  taking_still (Ok ok) other is it apart taking = taking_others other is it apart taking
-  taking_still (Err failed) other (inl fails) it apart taking = taking_behind other.1 old fails it (λ same. apart.1 (sym same)) taking
-  taking_still (Err failed) other (inr fails) it apart taking =
-      let differ : it.1 ≢ other.1 = λ same. apart.1 (sym same) in
-      let mid = with_input_closed (child_no other.1) old in
-      taking_behind other.1 mid fails it differ (IsTaking-others (child_no it.1) (child_no other.1) old mid differ refl taking)
-
-  keeps_without_first : (result : Result (Unit {0}) Failed) (it : Entry) (kept : List Entry) → EndsChild result (child_no it.1) old new →
+  keeps_without_first : (it : Entry) (kept : List Entry) → new ≡ with_child_over (child_no it.1) (with_input_closed (child_no it.1) old) →
       KeepsPrograms (program_side (it ∷ kept) old) → KeepsPrograms (program_side kept new)
-  keeps_without_first result it kept is keeps = record {
-    are_taking = each_both (Differs it) (λ other. IsTaking (child_no other.1) old) (λ other. IsTaking (child_no other.1) new) (taking_still result it is) kept
+  keeps_without_first it kept is keeps = record {
+    are_taking = each_both (Differs it) (λ other. IsTaking (child_no other.1) old) (λ other. IsTaking (child_no other.1) new) (taking_others it is) kept
         keeps.apart.0 keeps.are_taking.1;
     apart = keeps.apart.1;
     few = omega (arith, keeps.few);
   }
 
-  keeps_without_last : (result : Result (Unit {0}) Failed) (it : Entry) (kept : List Entry) → EndsChild result (child_no it.1) old new →
+  keeps_without_last : (it : Entry) (kept : List Entry) → new ≡ with_child_over (child_no it.1) (with_input_closed (child_no it.1) old) →
       KeepsPrograms (program_side (kept ++ it ∷ []) old) → KeepsPrograms (program_side kept new)
-  keeps_without_last result it kept is keeps = record {
-    are_taking = each_both (Differs it) (λ other. IsTaking (child_no other.1) old) (λ other. IsTaking (child_no other.1) new) (taking_still result it is) kept
+  keeps_without_last it kept is keeps = record {
+    are_taking = each_both (Differs it) (λ other. IsTaking (child_no other.1) old) (λ other. IsTaking (child_no other.1) new) (taking_others it is) kept
         (apart_last kept it keeps.apart) (each_front (λ other. IsTaking (child_no other.1) old) kept (it ∷ []) keeps.are_taking);
     apart = apart_front kept it keeps.apart;
     few = omega (arith, keeps.few, length-append kept (it ∷ []));
@@ -124,18 +67,14 @@ module _ (old new : LauncherRecord) where
 
   -- what stands where a call failed that was to end a child
   module _ (it : ℕ) (files : Option (List File)) where
-    ends_stands : FailsAndLetsGo (child_no it) old new ⊎ FailsAndLetsGo (child_no it) (with_input_closed (child_no it) old) new →
+    ends_stands : LauncherFails old new ⊎ LauncherFails (with_input_closed (child_no it) old) new →
         IsOneOf (outside_with files old ∷ input_shut it (outside_with files old) ∷ []) (outside_with files new)
-    ends_stands (inl fails) = inl (ap (outside_with files) fails.2 ∙ ap (outside_with files) fails.1.1)
-    ends_stands (inr fails) = inr (inl (ap (outside_with files) fails.2 ∙ ap (outside_with files) fails.1.1))
+    ends_stands (inl fails) = inl (ap (outside_with files) fails.1)
+    ends_stands (inr fails) = inr (inl (ap (outside_with files) fails.1))
 
-  pub rose_behind : (other : ℕ) (mid : LauncherRecord) → FailsAndLetsGo (child_no other) mid new → Rose mid.faults new.faults
-  rose_behind other mid fails = subst (λ (faults : ℕ). Rose mid.faults faults) (sym (ap (λ (launcher : LauncherRecord). launcher.faults) fails.2)) fails.1.0
-
-  ends_rose : (it : ℕ) → FailsAndLetsGo (child_no it) old new ⊎ FailsAndLetsGo (child_no it) (with_input_closed (child_no it) old) new →
-      Rose old.faults new.faults
-  ends_rose it (inl fails) = rose_behind it old fails
-  ends_rose it (inr fails) = rose_behind it (with_input_closed (child_no it) old) fails
+  ends_rose : (it : ℕ) → LauncherFails old new ⊎ LauncherFails (with_input_closed (child_no it) old) new → Rose old.faults new.faults
+  ends_rose it (inl fails) = fails.0
+  ends_rose it (inr fails) = fails.0
 
 pub ends_oldest : (result : Result (Unit {0}) Failed) (it : Entry) (kept : List Entry) (old new : LauncherRecord) → EndsChild result (child_no it.1) old new →
     KeepsPrograms (program_side (kept ++ it ∷ []) old) → ChangesOr result with_last_over last_parts (program_side (kept ++ it ∷ []) old) (program_side kept new)
@@ -144,33 +83,22 @@ ends_oldest (Ok ok) it kept old new is keeps = record {
       ap (λ (outside : Outside). record { outside = outside; piped = kept }) (ap (outside_with files) is ∙ sym (ap (λ (e : Option Entry). ended e (outside_with files old)) (last_is kept it)))
       ∙ ap (λ (piped : List Entry). record { outside = ended (last_of (kept ++ it ∷ [])) (outside_with files old); piped = piped }) (sym (take_front kept it));
   faults = ap (λ (launcher : LauncherRecord). launcher.faults) is;
-  keeps = keeps_without_last old new (Ok ok) it kept is keeps;
+  keeps = keeps_without_last old new it kept is keeps;
 }
-ends_oldest (Err failed) it kept old new fails keeps = (
-  record {
-    rose = ends_rose old new it.1 fails;
-    stands = λ files.
-        subst (λ (e : Option Entry). IsOneOf (over_parts e (outside_with files old)) (outside_with files new)) (sym (last_is kept it)) (ends_stands old new it.1 files fails);
-    keeps = keeps_without_last old new (Err failed) it kept fails keeps;
-  },
-  λ files. sym (take_front kept it),
-)
+ends_oldest (Err failed) it kept old new fails keeps = record {
+  rose = ends_rose old new it.1 fails;
+  stands = λ files.
+      subst (λ (e : Option Entry). IsOneOf (over_parts e (outside_with files old)) (outside_with files new)) (sym (last_is kept it)) (ends_stands old new it.1 files fails);
+}
 
 pub ends_newest : (result : Result (Unit {0}) Failed) (it : Entry) (kept : List Entry) (old new : LauncherRecord) → EndsChild result (child_no it.1) old new →
     KeepsPrograms (program_side (it ∷ kept) old) → ChangesOr result with_first_over first_parts (program_side (it ∷ kept) old) (program_side kept new)
 ends_newest (Ok ok) it kept old new is keeps = record {
   world = λ files. ap (λ (launcher : LauncherRecord). world_with files (program_side kept launcher)) is;
   faults = ap (λ (launcher : LauncherRecord). launcher.faults) is;
-  keeps = keeps_without_first old new (Ok ok) it kept is keeps;
+  keeps = keeps_without_first old new it kept is keeps;
 }
-ends_newest (Err failed) it kept old new fails keeps = (
-  record {
-    rose = ends_rose old new it.1 fails;
-    stands = λ files. ends_stands old new it.1 files fails;
-    keeps = keeps_without_first old new (Err failed) it kept fails keeps;
-  },
-  λ files. refl,
-)
+ends_newest (Err failed) it kept old new fails keeps = record { rose = ends_rose old new it.1 fails; stands = λ files. ends_stands old new it.1 files fails }
 
 -- there is room
 room_there : (side : ProgramSide) → length side.kept < MOST_PIPED → KeepsPrograms side → ProgramsBecome with_room side side
@@ -211,11 +139,11 @@ starts words command child kept old new told spells its_own unknown room is keep
 }
 
 -- one of some is one of more
-pub one_behind : (some more : List Outside) (x : Outside) → IsOneOf more x → IsOneOf (some ++ more) x
+one_behind : (some more : List Outside) (x : Outside) → IsOneOf more x → IsOneOf (some ++ more) x
 one_behind [] more x one = one
 one_behind (y ∷ some) more x one = inr (one_behind some more x one)
 
-pub one_before : (some more : List Outside) (x : Outside) → IsOneOf some x → IsOneOf (some ++ more) x
+one_before : (some more : List Outside) (x : Outside) → IsOneOf some x → IsOneOf (some ++ more) x
 one_before [] more x one = absurd one
 one_before (y ∷ some) more x (inl same) = inl same
 one_before (y ∷ some) more x (inr one) = inr (one_before some more x one)
@@ -230,29 +158,16 @@ room_failed old new full fails =
           let world = world_with files old in
           one_before (cond (nat_lt (length old.kept) 32) [] (last_parts world)) ((with_room world).outside ∷ []) (outside_with files new.launcher)
           (subst (λ (b : Bool). IsOneOf (cond b [] (last_parts world)) (outside_with files new.launcher)) (sym test) (fails.stands files));
-      keeps = fails.keeps;
     }
 
--- all that is kept takes bytes still where the launcher failed
-pub keeps_failed : (kept : List Entry) (old new : LauncherRecord) → LauncherFails old new → KeepsPrograms (program_side kept old) →
-    KeepsPrograms (program_side kept new)
-keeps_failed kept old new fails keeps = record {
-  are_taking = each_then (λ it. IsTaking (child_no it.1) old) (λ it. IsTaking (child_no it.1) new)
-      (λ it taking. IsTaking-fails (child_no it.1) old new fails taking) kept keeps.are_taking;
-  apart = keeps.apart;
-  few = keeps.few;
-}
-
 -- the program could not be started behind that
-start_failed : (old mid : ProgramSide) (new : LauncherRecord) → ProgramsBecome with_room old mid → LauncherFails mid.launcher new →
-    ProgramsFail room_parts old (program_side mid.kept new)
+start_failed : (old mid new : ProgramSide) → ProgramsBecome with_room old mid → LauncherFails mid.launcher new.launcher → ProgramsFail room_parts old new
 start_failed old mid new room fails = record {
-  rose = subst (λ (faults : ℕ). Rose faults new.faults) room.faults fails.0;
+  rose = subst (λ (faults : ℕ). Rose faults new.launcher.faults) room.faults fails.0;
   stands = λ files.
       let world = world_with files old in
-      one_behind (cond (nat_lt (length old.kept) 32) [] (last_parts world)) ((with_room world).outside ∷ []) (outside_with files new)
+      one_behind (cond (nat_lt (length old.kept) 32) [] (last_parts world)) ((with_room world).outside ∷ []) (outside_with files new.launcher)
       (inl (ap (outside_with files) fails.1 ∙ ap (λ (w : World). w.outside) (room.world files)));
-  keeps = keeps_failed mid.kept mid.launcher new fails room.keeps;
 }
 
 starts_behind : (words : List (List ℕ)) (old mid new : ProgramSide) → ProgramsBecome with_room old mid → ProgramsBecome (with_new words) mid new →
@@ -286,20 +201,20 @@ room_ended kept launcher keeps = by_room (room_or_full kept keeps.few)
         (room_made (program_side kept launcher) (program_side full.0 over) full.5 (ends keeps)))
 
 -- the one that goes could not be ended
-gone_failed : (failed : Failed) (kept : List Entry) (old new : LauncherRecord) → KeepsPrograms (program_side kept old) →
-    EndsGone (gone_of kept) (Err failed) old new → ProgramsFail room_parts (program_side kept old) (program_side (staying kept) new)
-gone_failed failed kept old new keeps ends = by_room (room_or_full kept keeps.few)
+gone_failed : (failed : Failed) (kept now : List Entry) (old new : LauncherRecord) → KeepsPrograms (program_side kept old) →
+    EndsGone (gone_of kept) (Err failed) old new → ProgramsFail room_parts (program_side kept old) (program_side now new)
+gone_failed failed kept now old new keeps ends = by_room (room_or_full kept keeps.few)
   where
-    by_room : HasRoom kept ⊎ IsFull kept → ProgramsFail room_parts (program_side kept old) (program_side (staying kept) new)
+    by_room : HasRoom kept ⊎ IsFull kept → ProgramsFail room_parts (program_side kept old) (program_side now new)
     by_room (inl few) = let none = subst (λ (gone : Option ℕ). EndsGone gone (Err failed) old new) few.2 ends in absurd (cc none.0)
     by_room (inr full) =
         let last = subst (λ (gone : Option ℕ). EndsGone gone (Err failed) old new) full.4 ends in
         let Q : List Entry → Type 0 = λ all.
         KeepsPrograms (program_side all old) → ProgramsFail last_parts (program_side all old) (program_side full.0 new)
         in
-        let fails : Q kept = subst Q (sym full.2) (λ all. (ends_oldest (Err failed) full.1 full.0 old new last all).0) in
-        subst (λ (left : List Entry). ProgramsFail room_parts (program_side kept old) (program_side left new)) (sym full.3)
-        (room_failed (program_side kept old) (program_side full.0 new) full.5 (fails keeps))
+        let fails : Q kept = subst Q (sym full.2) (ends_oldest (Err failed) full.1 full.0 old new last) in
+        let now_fails = room_failed (program_side kept old) (program_side full.0 new) full.5 (fails keeps) in
+        record { rose = now_fails.rose; stands = now_fails.stands }
 
 -- the entry of a command was reserved, its program was started, and the entry got its number
 pub starts_reserved : (words : List (List ℕ)) (command : List ℕ) (child : ChildNo) (kept now : List Entry) (old new : LauncherRecord) →
@@ -325,38 +240,21 @@ starts_reserved words command child kept now old new its_own unknown keeps is ke
 -- it was reserved, and the launcher failed
 pub starts_failed : (failed : Failed) (words : List (List ℕ)) (command : List ℕ) (kept now : List Entry) (old new : LauncherRecord) →
     command ≡ command_of words → number_under command kept ≡ None → KeepsPrograms (program_side kept old) →
-    StartsAfter (Err failed) (gone_of kept) words old new → now ≡ staying kept →
-    ProgramsFail (by_program_parts words) (program_side kept old) (program_side now new)
-    × LeavesPrograms (others_than words) (program_side kept old) (program_side now new)
-starts_failed failed words command kept now old new its_own unknown keeps is kept_now =
-    subst
-    (λ (entries : List Entry). ProgramsFail (by_program_parts words) (program_side kept old) (program_side entries new)
-    × LeavesPrograms (others_than words) (program_side kept old) (program_side entries new))
-    (sym kept_now)
-    (all_fails (by_fault is), left)
-  where
-    none : number_under (command_of words) kept ≡ None
-    none = subst (λ (name : List ℕ). number_under name kept ≡ None) its_own unknown
-
-    all_fails : ProgramsFail room_parts (program_side kept old) (program_side (staying kept) new) →
-        ProgramsFail (by_program_parts words) (program_side kept old) (program_side (staying kept) new)
-    all_fails fails = record {
+    StartsAfter (Err failed) (gone_of kept) words old new → ProgramsFail (by_program_parts words) (program_side kept old) (program_side now new)
+starts_failed failed words command kept now old new its_own unknown keeps is =
+    let none : number_under (command_of words) kept ≡ None = subst (λ (name : List ℕ). number_under name kept ≡ None) its_own unknown in
+    let fails = by_fault is in
+    record {
       rose = fails.rose;
       stands = λ files.
           subst (λ (found : Option ℕ). IsOneOf (pipe_parts found (world_with files (program_side kept old))) (outside_with files new)) (sym none)
           (fails.stands files);
-      keeps = fails.keeps;
     }
-
-    left : LeavesPrograms (others_than words) (program_side kept old) (program_side (staying kept) new)
-    left files =
-        ap (λ (world : World). world.piped) ((room_ended kept old keeps).world files)
-        ∙ ap (λ (found : Option ℕ). drop 1 (piped_by found words (world_with files (program_side kept old))).piped) (sym none)
-
-    by_fault : StartsAfter (Err failed) (gone_of kept) words old new → ProgramsFail room_parts (program_side kept old) (program_side (staying kept) new)
-    by_fault (inl ends) = gone_failed failed kept old new keeps ends
+  where
+    by_fault : StartsAfter (Err failed) (gone_of kept) words old new → ProgramsFail room_parts (program_side kept old) (program_side now new)
+    by_fault (inl ends) = gone_failed failed kept now old new keeps ends
     by_fault (inr fails) =
-        start_failed (program_side kept old) (program_side (staying kept) (with_gone_over (gone_of kept) old)) new (room_ended kept old keeps) fails
+        start_failed (program_side kept old) (program_side (staying kept) (with_gone_over (gone_of kept) old)) (program_side now new) (room_ended kept old keeps) fails
 
 -- what goes takes bytes
 pub gone_taking : (kept : List Entry) (launcher : LauncherRecord) → KeepsPrograms (program_side kept launcher) →
@@ -475,7 +373,6 @@ closing_fails old mid new some closing fails = record {
   rose = subst (λ (faults : ℕ). Rose faults new.launcher.faults) closing.faults fails.rose;
   stands = λ files.
       closing.parts files (outside_with files new.launcher) ((closes_some (world_with files mid) some).first (outside_with files new.launcher) (fails.stands files));
-  keeps = fails.keeps;
 }
 
 pub closing_ends : (old now : ProgramSide) → now.kept ≡ [] → IsClosing old now → ProgramsBecome closed old now

@@ -1,8 +1,7 @@
 -- What a step of files, or of programs, is to all that is kept.
-use Rattle.std.proofs.Common.{◌≡◌, ◌≢◌, ◌∙◌, ℕ, ◌≤◌, inl, inr, Bool, true, false, cond, List, [], ◌∷◌, ◌++◌, drop, length, Option, Some, option_map, Result, Ok, Err, refl, sym, ap, subst, arith}
+use Rattle.std.proofs.Common.{◌≡◌, ◌≢◌, ◌∙◌, ℕ, inl, inr, Bool, true, false, cond, List, [], ◌∷◌, ◌++◌, drop, length, Option, Some, option_map, Ok, Err, refl, sym, ap, subst, arith}
 use Rattle.std.specs.Prelude.{slice_get, String}
 use Rattle.std.specs.declared.alloc.Global.{Global}
-use Rattle.ldm_outside.specs.Count.{Rose}
 use Rattle.ldm_outside.specs.declared.fault.Failed.{Failed}
 use Rattle.ldm_outside.specs.Launcher.{Child as ChildRecord, IsTaking, LauncherRecord, spelled, with_started}
 use Rattle.ldm_outside.specs.Store.{File, StoreRecord, path_of, with_changed, with_file}
@@ -13,22 +12,20 @@ use Rattle.ldm_actions.specs.declared.answers.Done.{Done}
 use Rattle.ldm_actions.specs.declared.answers.Done.TheVariants as done
 use Rattle.ldm_actions.specs.declared.hand.Hand.{Hand}
 use Rattle.ldm_actions.specs.declared.hand.Place.{Place}
-use Rattle.ldm_actions.specs.declared.hand.Place.TheVariants as place
 use Rattle.ldm_actions.specs.declared.options.FileOptions.{FileOptions}
 use Rattle.ldm_actions.specs.declared.options.PipeOptions.{PipeOptions}
-use Rattle.ldm_actions.specs.Effects.{ToFile, ToProgram, Start, Nothing, Nowhere, File as FileTarget, Child, begun, closed, ended, executed, fed_to, finished, finished_by, given, opened, with_first_over}
+use Rattle.ldm_actions.specs.Effects.{ToFile, ToProgram, Start, Nothing, Nowhere, File as FileTarget, Child, begun, closed, executed, fed_to, finished, finished_by, given, opened}
 use Rattle.ldm_actions.specs.Hands.{newest_path, seen_with}
-use Rattle.ldm_actions.specs.Kept.{Each, IsNewest, first_of}
-use Rattle.ldm_actions.specs.OpenFiles.{BeginsFile, FileSide, FilesBecome, FilesFail, ForgetsFirst, IsOpenUnder, all_shut, file_no, file_side, files_begun, store_finished}
-use Rattle.ldm_actions.specs.Outputs.{Becomes, BeginsKept, ClosesKept, FinishesKept, GivesKept, Kept, Keeps, MendsKept, files_after_finish, kept_in, world_of}
-use Rattle.ldm_actions.specs.Parts.{begin_parts, finish_parts, finish_parts_by, over_parts}
-use Rattle.ldm_actions.specs.Programs.{BeginsProgram, ChangesOr, Executes, IsOneOf, LeavesPrograms, ProgramSide, ProgramsBecome, ProgramsFail, closing_parts, first_parts, outside_with, program_side, running_after, with_child_gone, with_child_over, with_executed, world_with}
+use Rattle.ldm_actions.specs.Kept.{Each, IsNewest}
+use Rattle.ldm_actions.specs.OpenFiles.{BeginsFile, FileSide, FilesBecome, FilesFail, IsOpenUnder, all_shut, file_no, file_side, files_begun, store_finished}
+use Rattle.ldm_actions.specs.Outputs.{Becomes, BeginsKept, ClosesKept, FinishesKept, GivesKept, Kept, Keeps, files_after_finish, kept_in, world_of}
+use Rattle.ldm_actions.specs.Parts.{begin_parts, finish_parts, finish_parts_by}
+use Rattle.ldm_actions.specs.Programs.{BeginsProgram, Executes, IsOneOf, ProgramSide, ProgramsBecome, ProgramsFail, closing_parts, outside_with, program_side, running_after, with_child_gone, with_child_over, with_executed, world_with}
 use Rattle.ldm_actions.specs.Strip.{kept}
-use Rattle.ldm_actions.specs.World.{Outside, World, child_no, made, started}
+use Rattle.ldm_actions.specs.World.{Outside, child_no, made, started}
 use Rattle.ldm_actions.specs.Writing.{AppendsAll, FeedsAll, with_appended, with_given}
-use Rattle.ldm_actions.proofs.FileSteps.{keeps_changed, keeps_failed as file_keeps_failed}
+use Rattle.ldm_actions.proofs.FileSteps.{keeps_changed}
 use Rattle.ldm_actions.proofs.KeptLemmas.{Entry, each_then}
-use Rattle.ldm_actions.proofs.ProgramSteps.{keeps_failed, one_before, one_behind, rose_behind, taking_behind}
 
 -- a file was begun
 module _ (files files' piped : List Entry) (store store' : StoreRecord) (launcher : LauncherRecord) where
@@ -65,8 +62,6 @@ module _ (files files' piped : List Entry) (store store' : StoreRecord) (launche
     stands = inl (ap (λ (all : Option (List File)). outside_with all launcher) fails.files_now);
     long = fails.long;
     launcher = refl;
-    piped = refl;
-    keeps = record { files = fails.keeps; programs = keeps.programs };
   }
   file_begun answer.StoreFault path options keeps (inr both) = record {
     rose = both.1.rose;
@@ -76,8 +71,6 @@ module _ (files files' piped : List Entry) (store store' : StoreRecord) (launche
         (inl (ap (λ (all : Option (List File)). outside_with all launcher) both.1.files_now)));
     long = both.1.long;
     launcher = refl;
-    piped = refl;
-    keeps = record { files = both.1.keeps; programs = keeps.programs };
   }
   file_begun answer.LaunchFault path options keeps never = absurd never
   file_begun answer.OutOfMemory path options keeps same =
@@ -107,17 +100,15 @@ module _ {files files' piped : List Entry} {store store' : StoreRecord} {launche
     (both.0.store_now, refl),
   )
 
-  pub file_not_finished : (path : List ℕ) (strip close flush : Bool) → Keeps (kept_in files piped store launcher) → FilesFail store.files (file_side files store) (file_side files' store') →
+  pub file_not_finished : (path : List ℕ) (strip close flush : Bool) → FilesFail store.files (file_side files store) (file_side files' store') →
       FinishesKept done.StoreFault (record { target = FileTarget path; strip = strip; close = close; flush = flush }) (kept_in files piped store launcher) (kept_in files' piped store' launcher)
   unfolding finish_parts
-  file_not_finished path strip close flush keeps fails = record {
+  file_not_finished path strip close flush fails = record {
     rose = fails.rose;
     few_open = fails.few_open;
     stands = inl (ap (λ (all : Option (List File)). outside_with all launcher) fails.files_now);
     long = fails.long;
     launcher = refl;
-    piped = refl;
-    keeps = record { files = fails.keeps; programs = keeps.programs };
   }
 
 -- a program was begun
@@ -147,12 +138,10 @@ module _ (files piped piped' : List Entry) (store : StoreRecord) (launcher launc
   program_begun answer.StoreFault words options keeps never = absurd never
   program_begun answer.LaunchFault words options keeps fails = record {
     store_now = refl;
-    rose = fails.0.rose;
-    stands = fails.0.stands store.files;
-    left = fails.1 store.files;
+    rose = fails.rose;
+    stands = fails.stands store.files;
     store_faults = refl;
     long = refl;
-    keeps = record { files = keeps.files; programs = fails.0.keeps };
   }
   program_begun answer.OutOfMemory words options keeps same =
       ap (λ (side : ProgramSide). kept_in files side.kept store side.launcher) same
@@ -176,19 +165,16 @@ module _ {files piped piped' : List Entry} {store : StoreRecord} {launcher launc
     refl,
   )
 
-  pub program_not_finished : (strip close flush : Bool) → Keeps (kept_in files piped store launcher) →
-      ProgramsFail (finish_parts_by Child close) (program_side piped launcher) (program_side piped' launcher')
-      × LeavesPrograms (λ world. (finished_by Child close world).piped) (program_side piped launcher) (program_side piped' launcher') →
+  pub program_not_finished : (strip close flush : Bool) →
+      ProgramsFail (finish_parts_by Child close) (program_side piped launcher) (program_side piped' launcher') →
       FinishesKept done.LaunchFault (record { target = Child; strip = strip; close = close; flush = flush }) (kept_in files piped store launcher) (kept_in files piped' store launcher')
-  unfolding finish_parts finished
-  program_not_finished strip close flush keeps fails = record {
+  unfolding finish_parts
+  program_not_finished strip close flush fails = record {
     store_now = refl;
-    rose = fails.0.rose;
-    stands = fails.0.stands store.files;
-    left = fails.1 store.files;
+    rose = fails.rose;
+    stands = fails.stands store.files;
     store_faults = refl;
     long = refl;
-    keeps = record { files = keeps.files; programs = fails.0.keeps };
   }
 
 -- a program was started
@@ -250,46 +236,25 @@ module _ (files piped : List Entry) (store : StoreRecord) (launcher launcher' : 
     (refl, ap (λ (l : LauncherRecord). l.running) done.2 ∙ executed_running wait done.0 ∙ ap (λ (w : List (List ℕ)). running_after w launcher) done.1),
   )
 
-  pub program_not_executed : (words : List (List ℕ)) (wait : Bool) (failed : Failed) → Keeps (kept_in files piped store launcher) →
-      Executes (Err failed) words wait launcher launcher' →
+  pub program_not_executed : (words : List (List ℕ)) (wait : Bool) (failed : Failed) → Executes (Err failed) words wait launcher launcher' →
       BeginsKept answer.LaunchFault (Start words wait) (kept_in files piped store launcher) (kept_in files piped store launcher')
   unfolding begin_parts
-  program_not_executed words wait failed keeps (inl fails) = record {
+  program_not_executed words wait failed (inl fails) = record {
     store_now = refl;
     rose = fails.0;
     stands = inl (ap (outside_with store.files) fails.1);
-    left = refl;
     store_faults = refl;
     long = refl;
-    keeps = record { files = keeps.files; programs = keeps_failed piped launcher launcher' fails keeps.programs };
   }
-  program_not_executed words wait failed keeps (inr both) = record {
+  program_not_executed words wait failed (inr both) = record {
     store_now = refl;
-    rose = rose_behind launcher launcher' launcher.next mid both.3;
+    rose = both.3.0;
     stands = inr
         (subst (λ (b : Bool). IsOneOf (cond b (started words false (outside_with store.files launcher) ∷ []) []) (outside_with store.files launcher')) (sym both.2)
-        (inl (ap (outside_with store.files) both.3.2 ∙ ap (outside_with store.files) both.3.1.1
-        ∙ ap (λ (w : List (List ℕ)). started w false (outside_with store.files launcher)) both.1)));
-    left = refl;
+        (inl (ap (outside_with store.files) both.3.1 ∙ ap (λ (w : List (List ℕ)). started w false (outside_with store.files launcher)) both.1)));
     store_faults = refl;
     long = refl;
-    keeps = record {
-      files = keeps.files;
-      programs = record {
-        are_taking = each_then (λ it. IsTaking (child_no it.1) launcher) (λ it. IsTaking (child_no it.1) launcher') still piped keeps.programs.are_taking;
-        apart = keeps.programs.apart;
-        few = keeps.programs.few;
-      };
-    };
   }
-    where
-      mid : LauncherRecord
-      mid = with_started both.0 false launcher
-
-      still : (it : Entry) → IsTaking (child_no it.1) launcher → IsTaking (child_no it.1) launcher'
-      still it taking =
-          taking_behind launcher launcher' launcher.next mid both.3 it (omega (arith, taking.given))
-          (IsTaking-before (child_no it.1) both.0 false launcher mid refl taking)
 
 -- an action that does nothing
 becomes_same : (now : Kept) → Keeps now → Becomes (world_of now) now.files now now
@@ -368,16 +333,7 @@ module _ {files piped : List Entry} {store : StoreRecord} {launcher : LauncherRe
     };
     long = ap (λ (s : StoreRecord). s.long) front.fails.1;
     launcher = refl;
-    piped = refl;
-    keeps = record {
-      files = file_keeps_failed mid store' files front.fails
-          (keeps_changed store mid files it.1 (λ before. before ++ front.front) refl keeps.files);
-      programs = keeps.programs;
-    };
   }
-    where
-      mid : StoreRecord
-      mid = with_appended (file_no it.1) front.front store
 
 -- a piece was given to the program that was written last
 module _ {files piped : List Entry} {store : StoreRecord} {launcher : LauncherRecord} {it : Entry} (newest : IsNewest it piped)
@@ -427,35 +383,20 @@ module _ {files piped : List Entry} {store : StoreRecord} {launcher : LauncherRe
       is_front = front.is_front;
       stands = ap (outside_with store.files) front.fails.1 ∙ fed_is front.front;
     };
-    left = refl;
     store_faults = refl;
     long = refl;
-    keeps = record {
-      files = keeps.files;
-      programs = keeps_failed piped mid launcher' front.fails (record {
-        are_taking = each_then (λ other. IsTaking (child_no other.1) launcher) (λ other. IsTaking (child_no other.1) mid)
-            (λ other taking. IsTaking-fed (child_no other.1) (child_no it.1) front.front launcher mid refl taking) piped keeps.programs.are_taking;
-        apart = keeps.programs.apart;
-        few = keeps.programs.few;
-      });
-    };
   }
-    where
-      mid : LauncherRecord
-      mid = with_given (child_no it.1) front.front launcher
 
 -- all files are shut, and then all programs are over
 pub files_not_closed : (files files' piped : List Entry) (store store' : StoreRecord) (launcher : LauncherRecord) →
-    Keeps (kept_in files piped store launcher) → FilesFail store.files (file_side files store) (file_side files' store') →
+    FilesFail store.files (file_side files store) (file_side files' store') →
     ClosesKept done.StoreFault (kept_in files piped store launcher) (kept_in files' piped store' launcher)
-files_not_closed files files' piped store store' launcher keeps fails = record {
+files_not_closed files files' piped store store' launcher fails = record {
   rose = fails.rose;
   few_open = fails.few_open;
   stands = inl (ap (λ (all : Option (List File)). outside_with all launcher) fails.files_now);
   long = fails.long;
   launcher = refl;
-  piped = refl;
-  keeps = record { files = fails.keeps; programs = keeps.programs };
 }
 
 module _ (files files' piped piped' : List Entry) (store store' : StoreRecord) (launcher launcher' : LauncherRecord)
@@ -483,10 +424,8 @@ module _ (files files' piped piped' : List Entry) (store store' : StoreRecord) (
     stands = inr
         (subst (λ (all : Option (List File)). IsOneOf (closing_parts (world_with all (program_side piped launcher))) (outside_with store'.files launcher'))
         shut.0.files_now (fails.stands store'.files));
-    left = tt;
     store_faults = shut.0.faults;
     long = shut.0.long;
-    keeps = record { files = shut.0.keeps; programs = fails.keeps };
   }
 
 -- what holds of the action in hand at its place holds of it
@@ -499,73 +438,3 @@ pub gives_at : (result : Done) (hand : Hand) (files : List Entry) (place : Place
     GivesKept result (seen_with files (record hand { place = place })) bytes old new → GivesKept result (seen_with files hand) bytes old new
 gives_at result hand files place bytes old new is =
     subst (λ (at : Place). GivesKept result (seen_with files (record hand { place = at })) bytes old new) (sym is)
-
--- ---- what an action left that failed on the way
-
-rose_le : (old new : ℕ) → Rose old new → old ≤ new
-rose_le old new (inl more) = omega (arith, more)
-rose_le old new (inr full) = omega (arith, full.0, full.1)
-
-module _ (files files' piped piped' : List Entry) (store store' : StoreRecord) (launcher launcher' : LauncherRecord) where
-  -- where the program is kept no more
-  mends_program : (result : Result (Unit {0}) Failed) → Keeps (kept_in files piped store launcher) →
-      ChangesOr result with_first_over first_parts (program_side piped launcher) (program_side piped' launcher') →
-      MendsKept Child (kept_in files piped store launcher) (kept_in files piped' store launcher')
-  mends_program (Ok ok) keeps becomes = record {
-    mends = (
-      refl,
-      ap (λ (world : World). world.piped) (becomes.world store.files),
-      refl,
-      one_behind (over_parts (first_of piped) (outside_with store.files launcher)) (ended (first_of piped) (outside_with store.files launcher) ∷ [])
-          (outside_with store.files launcher') (inl (ap (λ (world : World). world.outside) (becomes.world store.files))),
-    );
-    counts = record { store = omega arith; launcher = omega (arith, becomes.faults) };
-    keeps = record { files = keeps.files; programs = becomes.keeps };
-  }
-  mends_program (Err failed) keeps fails = record {
-    mends = (
-      refl,
-      fails.1 store.files,
-      refl,
-      one_before (over_parts (first_of piped) (outside_with store.files launcher)) (ended (first_of piped) (outside_with store.files launcher) ∷ [])
-          (outside_with store.files launcher') (fails.0.stands store.files),
-    );
-    counts = record { store = omega arith; launcher = rose_le launcher.faults launcher'.faults fails.0.rose };
-    keeps = record { files = keeps.files; programs = fails.0.keeps };
-  }
-
-  -- where the file is kept no more
-  mends_file : (path : List ℕ) → Keeps (kept_in files piped store launcher) → ForgetsFirst (file_side files store) (file_side files' store') →
-      MendsKept (FileTarget path) (kept_in files piped store launcher) (kept_in files' piped store' launcher)
-  mends_file path keeps forgets = record {
-    mends = (forgets.kept_now, refl, forgets.files_now, refl);
-    counts = record { store = forgets.faults; launcher = omega arith };
-    keeps = record { files = forgets.keeps; programs = keeps.programs };
-  }
-
-mends_at : (hand : Hand) (files : List Entry) (place : Place) (old new : Kept) → hand.place ≡ place →
-    MendsKept (seen_with files (record hand { place = place })).target old new → MendsKept (seen_with files hand).target old new
-mends_at hand files place old new is =
-    subst (λ (at : Place). MendsKept (seen_with files (record hand { place = at })).target old new) (sym is)
-
-pub program_mended : (hand : Hand) (files piped piped' : List Entry) (store : StoreRecord) (launcher launcher' : LauncherRecord)
-    (result : Result (Unit {0}) Failed) → hand.place ≡ place.Child → Keeps (kept_in files piped store launcher) →
-    ChangesOr result with_first_over first_parts (program_side piped launcher) (program_side piped' launcher') →
-    MendsKept (seen_with files hand).target (kept_in files piped store launcher) (kept_in files piped' store launcher')
-program_mended hand files piped piped' store launcher launcher' result is keeps step =
-    mends_at hand files place.Child _ _ is (mends_program files files piped piped' store store launcher launcher' result keeps step)
-
-pub file_mended : (hand : Hand) (files files' piped : List Entry) (store store' : StoreRecord) (launcher : LauncherRecord) →
-    hand.place ≡ place.File → Keeps (kept_in files piped store launcher) → ForgetsFirst (file_side files store) (file_side files' store') →
-    MendsKept (seen_with files hand).target (kept_in files piped store launcher) (kept_in files' piped store' launcher)
-file_mended hand files files' piped store store' launcher is keeps forgets =
-    mends_at hand files place.File _ _ is (mends_file files files' piped piped store store' launcher launcher (newest_path files) keeps forgets)
-
-pub nothing_mended : (hand : Hand) (files : List Entry) (now : Kept) → hand.place ≡ place.Nowhere → Keeps now →
-    MendsKept (seen_with files hand).target now now
-nothing_mended hand files now is keeps =
-    mends_at hand files place.Nowhere now now is (record {
-      mends = refl;
-      counts = record { store = omega arith; launcher = omega arith };
-      keeps = keeps;
-    })

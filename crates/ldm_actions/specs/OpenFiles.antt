@@ -1,5 +1,5 @@
 -- Files that are kept open, and what each step of keeping them does.
-use Rattle.std.specs.Prelude.{◌≡◌, ℕ, ◌-◌, ◌≤◌, ◌⊎◌, Bool, true, nat_lt, if◌then◌else◌, List, [], ◌∷◌, drop, length, take, Option, Some, None, option_map, Result, Ok, Err}
+use Rattle.std.specs.Prelude.{◌≡◌, ℕ, ◌-◌, ◌≤◌, ◌⊎◌, Bool, true, nat_lt, if◌then◌else◌, List, [], ◌∷◌, length, take, Option, Some, None, option_map, Result, Ok, Err}
 use Rattle.ldm_outside.specs.Count.{Rose}
 use Rattle.ldm_outside.specs.declared.fault.Failed.{Failed}
 use Rattle.ldm_outside.specs.declared.store.FileNo.{FileNo}
@@ -121,13 +121,12 @@ pub record FilesBecome (kept : List (List ℕ × ℕ)) (files : Option (List Fil
   pub long : new.store.long ≡ old.store.long
   pub keeps : KeepsFiles new
 
--- The store failed, and these are all files. All that is kept still is open.
+-- The store failed, and these are all files.
 pub record FilesFail (files : Option (List File)) (old new : FileSide) : Type 0 where
   pub rose : Rose old.store.faults new.store.faults
   pub files_now : new.store.files ≡ files
   pub few_open : OpensNoMore old → length new.store.paths ≤ MOST_OPEN
   pub long : new.store.long ≡ old.store.long
-  pub keeps : KeepsFiles new
 
 -- What shutting the file of a number did, if there is one,
 abbrev pub ShutsGone : Option ℕ → Result (Unit {0}) Failed → StoreRecord → StoreRecord → Type 0
@@ -143,13 +142,6 @@ OpensAfter (Err failed) gone path old new = ShutsGone gone (Err failed) old new 
 abbrev pub KeepsOr : Result (Unit {0}) Failed → List (List ℕ × ℕ) → StoreRecord → FileSide → FileSide → Type 0
 KeepsOr (Ok ok) kept store old new = FilesBecome kept old.store.files store old new × (new.store.next ≡ old.store.next)
 KeepsOr (Err failed) kept store old new = FilesFail old.store.files old new
-
--- The file that was used last is kept no more.
-pub record ForgetsFirst (old new : FileSide) : Type 0 where
-  pub kept_now : new.kept ≡ drop 1 old.kept
-  pub files_now : new.store.files ≡ old.store.files
-  pub faults : old.store.faults ≤ new.store.faults
-  pub keeps : KeepsFiles new
 
 -- What using the file of a path did: it is open, and was made where it was not there; or the store failed, before that; or there
 -- was no memory, and nothing was done.

@@ -1,5 +1,5 @@
 -- What an `Outputs` keeps, and what each call of it does.
-use Rattle.std.specs.Prelude.{◌≡◌, ℕ, ◌≤◌, Bool, true, false, List, [], ◌∷◌, ◌++◌, drop, length, Option, Some, None, IsSome}
+use Rattle.std.specs.Prelude.{◌≡◌, ℕ, ◌≤◌, Bool, true, false, List, [], drop, length, Option, Some, None, IsSome}
 use Rattle.ldm_outside.specs.Count.{Rose}
 use Rattle.ldm_outside.specs.Launcher.{LauncherRecord}
 use Rattle.ldm_outside.specs.Store.{StoreRecord}
@@ -10,12 +10,12 @@ use Rattle.ldm_actions.specs.declared.answers.Done.TheVariants as done
 use Rattle.ldm_actions.specs.declared.answers.Fault.{Fault}
 use Rattle.ldm_actions.specs.declared.answers.Fault.TheVariants as fault
 use Rattle.ldm_actions.specs.declared.hand.Hand.{Hand}
-use Rattle.ldm_actions.specs.Effects.{Action, ToFile, ToProgram, Start, Nothing, InHand, Target, Nowhere, File, Child, begun, closed, ended, finished, given, in_hand}
+use Rattle.ldm_actions.specs.Effects.{Action, ToFile, ToProgram, Start, Nothing, InHand, Target, Nowhere, File, Child, begun, closed, finished, given, in_hand}
 use Rattle.ldm_actions.specs.Hands.{hand_seen}
-use Rattle.ldm_actions.specs.Kept.{IsNewest, first_of}
+use Rattle.ldm_actions.specs.Kept.{IsNewest}
 use Rattle.ldm_actions.specs.declared.limits.TheConstants.{MOST_OPEN}
 use Rattle.ldm_actions.specs.OpenFiles.{KeepsFiles, all_shut, file_side, store_begun, store_finished, used}
-use Rattle.ldm_actions.specs.Parts.{IsGivenPart, begin_parts, close_parts, finish_parts, over_parts}
+use Rattle.ldm_actions.specs.Parts.{IsGivenPart, begin_parts, close_parts, finish_parts}
 use Rattle.ldm_actions.specs.Programs.{IsOneOf, KeepsPrograms, program_side, running_after, world_with}
 use Rattle.ldm_actions.specs.World.{Outside, World}
 
@@ -52,34 +52,21 @@ pub record Becomes (world : World) (files : List (List ℕ × ℕ)) (old new : K
   pub long : new.store.long ≡ old.store.long
   pub launcher_faults : new.launcher.faults ≡ old.launcher.faults
 
--- The store failed, and what stands is such. At most 32 files are open, where nothing else was open than what is kept. No program that
--- runs under PIPE was touched, and all that is kept still is open or takes bytes.
+-- The store failed, and what stands is such. At most 32 files are open, where nothing else was open than what is kept.
 pub record StoreStops (IsPart : Outside → Type 0) (old new : Kept) : Type 0 where
   pub rose : Rose old.store.faults new.store.faults
   pub few_open : OpensOnlyKept old → length new.store.paths ≤ MOST_OPEN
   pub stands : IsPart (world_of new).outside
   pub long : new.store.long ≡ old.store.long
   pub launcher : new.launcher ≡ old.launcher
-  pub piped : new.piped ≡ old.piped
-  pub keeps : Keeps new
 
--- The launcher failed. What stands is such, and such programs run under PIPE still. This is what the store tells, and all that is kept
--- still is open or takes bytes.
-pub record LauncherStops (IsPart : Outside → Type 0) (AreLeft : List (List ℕ × ℕ) → Type 0) (store : StoreRecord) (old new : Kept) : Type 0 where
+-- The launcher failed, and what stands is such. This is what the store tells.
+pub record LauncherStops (IsPart : Outside → Type 0) (store : StoreRecord) (old new : Kept) : Type 0 where
   pub store_now : new.store ≡ store
   pub rose : Rose old.launcher.faults new.launcher.faults
   pub stands : IsPart (world_of new).outside
-  pub left : AreLeft new.piped
   pub store_faults : new.store.faults ≡ old.store.faults
   pub long : new.store.long ≡ old.store.long
-  pub keeps : Keeps new
-
--- the programs that run under PIPE beside that of an action which could not be begun
-abbrev pub spared : Action → World → List (List ℕ × ℕ)
-spared (ToProgram words options) world = drop 1 (begun (ToProgram words options) world).piped
-spared (ToFile path options) world = world.piped
-spared (Start words wait) world = world.piped
-spared Nothing world = world.piped
 
 -- the files that are kept open after an action was begun: before one more is opened than may be, the one used longest ago is shut
 abbrev pub files_after_begin : Action → Kept → List (List ℕ × ℕ)
@@ -102,16 +89,14 @@ abbrev pub BeginsKept : Begun → Action → Kept → Kept → Type 0
 BeginsKept answer.Ready action old new =
     Becomes (begun action (world_of old)) (files_after_begin action old) old new × BeginLeaves action old new
 BeginsKept answer.StoreFault action old new = StoreStops (IsOneOf (begin_parts action (world_of old))) old new
-BeginsKept answer.LaunchFault action old new =
-    LauncherStops (IsOneOf (begin_parts action (world_of old))) (λ piped. piped ≡ spared action (world_of old)) old.store old new
+BeginsKept answer.LaunchFault action old new = LauncherStops (IsOneOf (begin_parts action (world_of old))) old.store old new
 BeginsKept answer.OutOfMemory action old new = new ≡ old
 
--- What a further call did where one failed: what stands is such. Where the launcher failed, this is what the store tells, and such
--- programs run still.
-abbrev pub Stops : Done → (Outside → Type 0) → (List (List ℕ × ℕ) → Type 0) → StoreRecord → Kept → Kept → Type 0
-Stops done.Ok IsPart AreLeft store old new = ⊥
-Stops done.StoreFault IsPart AreLeft store old new = StoreStops IsPart old new
-Stops done.LaunchFault IsPart AreLeft store old new = LauncherStops IsPart AreLeft store old new
+-- What a further call did where one failed: what stands is such. Where the launcher failed, this is what the store tells.
+abbrev pub Stops : Done → (Outside → Type 0) → StoreRecord → Kept → Kept → Type 0
+Stops done.Ok IsPart store old new = ⊥
+Stops done.StoreFault IsPart store old new = StoreStops IsPart old new
+Stops done.LaunchFault IsPart store old new = LauncherStops IsPart store old new
 
 -- What each further call did: all of it, or it was stopped.
 abbrev pub GoesOn : Done → Type 0 → Type 0 → Type 0
@@ -128,7 +113,7 @@ OnlyGives Child old new = (new.store ≡ old.store) × (new.launcher ≡ record 
 abbrev pub GivesKept : Done → InHand → List ℕ → Kept → Kept → Type 0
 GivesKept result hand bytes old new =
     GoesOn result (Becomes (given hand bytes (world_of old)) old.files old new × OnlyGives hand.target old new)
-    (Stops result (IsGivenPart hand bytes (world_of old)) (λ piped. piped ≡ old.piped) old.store old new)
+    (Stops result (IsGivenPart hand bytes (world_of old)) old.store old new)
 
 -- the files that are kept open after an action was finished
 abbrev pub files_after_finish : Target → Bool → List (List ℕ × ℕ) → List (List ℕ × ℕ)
@@ -152,13 +137,13 @@ abbrev pub FinishesKept : Done → InHand → Kept → Kept → Type 0
 FinishesKept result hand old new =
     GoesOn result
     (Becomes (finished hand (world_of old)) (files_after_finish hand.target hand.close old.files) old new × FinishLeaves hand old new)
-    (Stops result (IsOneOf (finish_parts hand (world_of old))) (λ piped. piped ≡ (finished hand (world_of old)).piped) old.store old new)
+    (Stops result (IsOneOf (finish_parts hand (world_of old))) old.store old new)
 
 -- All files that are kept are shut, also where the launcher failed behind that.
 abbrev pub ClosesKept : Done → Kept → Kept → Type 0
 ClosesKept result old new =
     GoesOn result (Becomes (closed (world_of old)) [] old new × (new.store ≡ all_shut old.files old.store))
-    (Stops result (IsOneOf (close_parts (world_of old))) (λ piped. Unit {0}) (all_shut old.files old.store) old new)
+    (Stops result (IsOneOf (close_parts (world_of old))) (all_shut old.files old.store) old new)
 
 -- An action in hand writes to what was used last.
 abbrev pub IsOfKept : Target → List (List ℕ × ℕ) → List (List ℕ × ℕ) → Type 0
@@ -205,9 +190,13 @@ pub record KeepsAll (now : Standing) : Type 0 where
   pub kept : Keeps (kept_by now)
   pub hand : HandIsKept now.outputs.hand now
 
+-- the same of one that is not spent
+abbrev pub KeepsUnlessSpent : Standing → Type 0
+KeepsUnlessSpent now = now.outputs.spent ≡ None → KeepsAll now
+
 -- what was just made keeps nothing, of whatever store and launcher
 abbrev pub KeepsOfAny : OutputsView → Type 0
-KeepsOfAny outputs = (store : StoreRecord) (launcher : LauncherRecord) → KeepsAll (standing outputs store launcher)
+KeepsOfAny outputs = (store : StoreRecord) (launcher : LauncherRecord) → KeepsUnlessSpent (standing outputs store launcher)
 
 -- At most 32 files are open in the store. Where the `Outputs` is not spent, they are those that it keeps.
 pub record OpensFew (now : Standing) : Type 0 where
@@ -230,11 +219,6 @@ pub record HasInHand (hand : Option InHand) (now : Standing) : Type 0 where
   pub in_hand : now.outputs.hand ≡ hand
   pub unspent : now.outputs.spent ≡ None
 
--- It is spent by this fault, and this action is in hand: the one whose body was being written, or none.
-pub record IsSpent (why : Fault) (hand : Option InHand) (now : Standing) : Type 0 where
-  pub spent : now.outputs.spent ≡ Some why
-  pub in_hand : now.outputs.hand ≡ hand
-
 -- what a spent one answers
 abbrev pub begun_again : Fault → Begun
 begun_again fault.Store = answer.StoreFault
@@ -244,17 +228,17 @@ abbrev pub done_again : Fault → Done
 done_again fault.Store = done.StoreFault
 done_again fault.Launch = done.LaunchFault
 
--- What a call on one that is not spent left in hand: after a fault it is spent, and an action that could not be begun is not in hand.
+-- What a call on one that is not spent left in hand: after a fault it is spent.
 abbrev pub LeavesBegun : Begun → Option InHand → Standing → Standing → Type 0
 LeavesBegun answer.Ready hand old new = HasInHand hand new
-LeavesBegun answer.StoreFault hand old new = IsSpent fault.Store None new
-LeavesBegun answer.LaunchFault hand old new = IsSpent fault.Launch None new
+LeavesBegun answer.StoreFault hand old new = new.outputs.spent ≡ Some fault.Store
+LeavesBegun answer.LaunchFault hand old new = new.outputs.spent ≡ Some fault.Launch
 LeavesBegun answer.OutOfMemory hand old new = new ≡ old
 
 abbrev pub LeavesDone : Done → Option InHand → Standing → Type 0
 LeavesDone done.Ok hand new = HasInHand hand new
-LeavesDone done.StoreFault hand new = IsSpent fault.Store hand new
-LeavesDone done.LaunchFault hand new = IsSpent fault.Launch hand new
+LeavesDone done.StoreFault hand new = new.outputs.spent ≡ Some fault.Store
+LeavesDone done.LaunchFault hand new = new.outputs.spent ≡ Some fault.Launch
 
 -- What `begin` did. One that is spent answers its first fault again and touches nothing.
 abbrev pub BeginsBy : Option Fault → Begun → Action → Standing → Standing → Type 0
@@ -289,42 +273,3 @@ ClosesBy None result old new = ClosesKept result (kept_by old) (kept_by new) × 
 
 abbrev pub Closes : Done → Standing → Standing → Type 0
 Closes result old new = ClosesBy old.outputs.spent result old new
-
--- What mending did to what is kept, by where the action wrote that failed on the way. Its file is kept no more, and was shut or could not
--- be; its program runs no more under PIPE, and is over or was let go. A failure anywhere else leaves nothing to mend.
-abbrev pub MendsAt : Target → Kept → Kept → Type 0
-MendsAt Nowhere old new = new ≡ old
-MendsAt (File path) old new =
-    (new.files ≡ drop 1 old.files) × (new.piped ≡ old.piped) × (new.store.files ≡ old.store.files) × (new.launcher ≡ old.launcher)
-MendsAt Child old new =
-    (new.files ≡ old.files) × (new.piped ≡ drop 1 old.piped) × (new.store ≡ old.store)
-    × IsOneOf (over_parts (first_of old.piped) (world_of old).outside ++ ended (first_of old.piped) (world_of old).outside ∷ [])
-      (world_of new).outside
-
--- no count fell
-pub record KeepsCounts (old new : Kept) : Type 0 where
-  pub store : old.store.faults ≤ new.store.faults
-  pub launcher : old.launcher.faults ≤ new.launcher.faults
-
-pub record MendsKept (target : Target) (old new : Kept) : Type 0 where
-  pub mends : MendsAt target old new
-  pub counts : KeepsCounts old new
-  pub keeps : Keeps new
-
-abbrev pub MendsHand : Option InHand → Kept → Kept → Type 0
-MendsHand None old new = new ≡ old
-MendsHand (Some hand) old new = MendsAt hand.target old new
-
--- It goes on: what the action in hand left is mended, and no count fell.
-pub record GoesAhead (old new : Standing) : Type 0 where
-  pub mends : MendsHand old.outputs.hand (kept_by old) (kept_by new)
-  pub none_in_hand : HasInHand None new
-  pub counts : KeepsCounts (kept_by old) (kept_by new)
-
--- What `mend` did: nothing, to one that is not spent.
-abbrev pub MendsBy : Option Fault → Standing → Standing → Type 0
-MendsBy None old new = new ≡ old
-MendsBy (Some fault) old new = GoesAhead old new
-
-abbrev pub Mends : Standing → Standing → Type 0
-Mends old new = MendsBy old.outputs.spent old new

@@ -1,5 +1,5 @@
 -- Programs that run under PIPE, and what each step of keeping them does.
-use Rattle.std.specs.Prelude.{◌≡◌, ℕ, ◌-◌, ◌≤◌, ◌⊎◌, Bool, false, true, if◌then◌else◌, List, [], ◌∷◌, drop, length, take, Option, Some, None, option_map, Result, Ok, Err, String}
+use Rattle.std.specs.Prelude.{◌≡◌, ℕ, ◌-◌, ◌≤◌, ◌⊎◌, Bool, false, true, if◌then◌else◌, List, [], ◌∷◌, length, take, Option, Some, None, option_map, Result, Ok, Err, String}
 use Rattle.std.specs.declared.alloc.Global.{Global}
 use Rattle.ldm_outside.specs.Count.{Rose}
 use Rattle.ldm_outside.specs.declared.fault.Failed.{Failed}
@@ -10,7 +10,7 @@ use Rattle.ldm_outside.specs.Store.{File}
 use Rattle.ldm_actions.specs.declared.answers.Begun.{Begun}
 use Rattle.ldm_actions.specs.declared.answers.Begun.TheVariants as begun
 use Rattle.ldm_actions.specs.declared.limits.TheConstants.{MOST_PIPED}
-use Rattle.ldm_actions.specs.Effects.{closed, ended, piped_by, runs_under}
+use Rattle.ldm_actions.specs.Effects.{ended, piped_by, runs_under}
 use Rattle.ldm_actions.specs.Kept.{AreApart, Each, first_of, last_of}
 use Rattle.ldm_actions.specs.Parts.{all_over_parts, over_parts, pipe_parts}
 use Rattle.ldm_actions.specs.World.{Outside, World, child_no, command_of}
@@ -59,19 +59,10 @@ with_child_over child old = record old {
 abbrev pub with_child_gone : ChildNo → LauncherRecord → LauncherRecord
 with_child_gone child old = record old { running = without_number child.0 old.running }
 
--- The launcher failed, and then a child was let go.
-abbrev pub FailsAndLetsGo : ChildNo → LauncherRecord → LauncherRecord → Type 0
-FailsAndLetsGo child old new = (failed : LauncherRecord) × LauncherFails old failed × (new ≡ with_child_gone child failed)
-
--- What waiting for a child did.
-abbrev pub WaitsOrLetsGo : Result (Unit {0}) Failed → ChildNo → LauncherRecord → LauncherRecord → Type 0
-WaitsOrLetsGo (Ok ok) child old new = new ≡ with_child_over child old
-WaitsOrLetsGo (Err failed) child old new = FailsAndLetsGo child old new
-
--- What ending a child did: its input was shut, and it was waited for; or one of the two calls failed, and it was let go.
+-- What ending a child did: its input was shut, and it was waited for; or one of the two calls failed.
 abbrev pub EndsChild : Result (Unit {0}) Failed → ChildNo → LauncherRecord → LauncherRecord → Type 0
 EndsChild (Ok ok) child old new = new ≡ with_child_over child (with_input_closed child old)
-EndsChild (Err failed) child old new = FailsAndLetsGo child old new ⊎ FailsAndLetsGo child (with_input_closed child old) new
+EndsChild (Err failed) child old new = LauncherFails old new ⊎ LauncherFails (with_input_closed child old) new
 
 -- What ending the child of a number did, if there is one.
 abbrev pub EndsGone : Option ℕ → Result (Unit {0}) Failed → LauncherRecord → LauncherRecord → Type 0
@@ -89,21 +80,15 @@ pub record ProgramsBecome (change : World → World) (old new : ProgramSide) : T
   pub faults : new.launcher.faults ≡ old.launcher.faults
   pub keeps : KeepsPrograms new
 
--- The launcher failed, and what stands is one of these, whatever files there are. All that is kept still takes bytes.
+-- The launcher failed, and what stands is one of these, whatever files there are.
 pub record ProgramsFail (parts : World → List Outside) (old new : ProgramSide) : Type 0 where
   pub rose : Rose old.launcher.faults new.launcher.faults
   pub stands : (files : Option (List File)) → IsOneOf (parts (world_with files old)) (outside_with files new.launcher)
-  pub keeps : KeepsPrograms new
 
--- These are kept, whatever files there are.
-abbrev pub LeavesPrograms : (World → List (List ℕ × ℕ)) → ProgramSide → ProgramSide → Type 0
-LeavesPrograms left old new = (files : Option (List File)) → new.kept ≡ left (world_with files old)
-
--- What a step did that needs no memory: what stands changed so; or the launcher failed, one of the parts stands, and as many are kept
--- as if it had not failed.
+-- What a step did that needs no memory: what stands changed so; or the launcher failed, and one of the parts stands.
 abbrev pub ChangesOr : Result (Unit {0}) Failed → (World → World) → (World → List Outside) → ProgramSide → ProgramSide → Type 0
 ChangesOr (Ok ok) change parts old new = ProgramsBecome change old new
-ChangesOr (Err failed) change parts old new = ProgramsFail parts old new × LeavesPrograms (λ world. (change world).piped) old new
+ChangesOr (Err failed) change parts old new = ProgramsFail parts old new
 
 -- the child that was written longest ago is over
 abbrev pub with_last_over : World → World
@@ -123,18 +108,9 @@ by_program words world = piped_by (runs_under (command_of words) world) words wo
 abbrev pub by_program_parts : List (List ℕ) → World → List Outside
 by_program_parts words world = pipe_parts (runs_under (command_of words) world) world
 
--- the others that run under PIPE beside the program of these words
-abbrev pub others_than : List (List ℕ) → World → List (List ℕ × ℕ)
-others_than words world = drop 1 (by_program words world).piped
-
 -- no program runs any more
 abbrev pub closing_parts : World → List Outside
 closing_parts world = all_over_parts world.piped world.outside
-
--- What closing all did: it is over; or the launcher failed, and one of the parts stands.
-abbrev pub ClosesPrograms : Result (Unit {0}) Failed → ProgramSide → ProgramSide → Type 0
-ClosesPrograms (Ok ok) old new = ProgramsBecome closed old new
-ClosesPrograms (Err failed) old new = ProgramsFail closing_parts old new
 
 -- What starting a program did, whose words the launcher was told.
 abbrev pub StartsProgram : Result ChildNo Failed → List (List ℕ) → Bool → LauncherRecord → LauncherRecord → Type 0
@@ -145,26 +121,25 @@ abbrev pub StartsAfter : Result ChildNo Failed → Option ℕ → List (List ℕ
 StartsAfter (Ok child) gone words old new = StartsProgram (Ok child) words true (with_gone_over gone old) new
 StartsAfter (Err failed) gone words old new = EndsGone gone (Err failed) old new ⊎ LauncherFails (with_gone_over gone old) new
 
--- What giving an action its program did: it runs, as the one that was written last; or the launcher failed, and the others are kept; or
--- there was no memory, and nothing was done.
+-- What giving an action its program did: it runs, as the one that was written last; or the launcher failed; or there was no
+-- memory, and nothing was done.
 abbrev pub BeginsProgram : Begun → List (List ℕ) → ProgramSide → ProgramSide → Type 0
 BeginsProgram begun.Ready words old new = ProgramsBecome (by_program words) old new
 BeginsProgram begun.StoreFault words old new = ⊥
-BeginsProgram begun.LaunchFault words old new = ProgramsFail (by_program_parts words) old new × LeavesPrograms (others_than words) old new
+BeginsProgram begun.LaunchFault words old new = ProgramsFail (by_program_parts words) old new
 BeginsProgram begun.OutOfMemory words old new = new ≡ old
 
 -- A program was started, and has ended where it is waited for; else it was let go.
 abbrev pub with_executed : Bool → ChildNo → LauncherRecord → LauncherRecord
 with_executed wait child old = if wait then with_child_over child old else with_child_gone child old
 
--- What executing a program did. Where it was not waited for, it was let go.
+-- What executing a program did.
 abbrev pub Executes : Result (Unit {0}) Failed → List (List ℕ) → Bool → LauncherRecord → LauncherRecord → Type 0
 Executes (Ok ok) words wait old new =
     (told : List (String Global)) × (spelled told ≡ words) × (new ≡ with_executed wait (child_no old.next) (with_started told false old))
 Executes (Err failed) words wait old new =
     LauncherFails old new
-    ⊎ ((told : List (String Global)) × (spelled told ≡ words) × (wait ≡ true)
-      × FailsAndLetsGo (child_no old.next) (with_started told false old) new)
+    ⊎ ((told : List (String Global)) × (spelled told ≡ words) × (wait ≡ true) × LauncherFails (with_started told false old) new)
 
 -- the programs that run after one was started that is told no more
 abbrev pub running_after : List (List ℕ) → LauncherRecord → List (ℕ × Running)

@@ -2,8 +2,8 @@
 ghost use Rattle.std.specs.Prelude.{◌≡◌, ◌-◌, ◌<◌, [], IfSome, None, drop, if◌then◌else◌, length, take};
 ghost use Rattle.ldm_outside.specs.Store.{IsOpen};
 ghost use Rattle.ldm_actions.specs.Kept.{first_of, last_of, number_under};
-ghost use Rattle.ldm_actions.specs.OpenFiles.{BeginsFile, ForgetsFirst, KeepsFiles, KeepsOr, OpensAfter};
-ghost use Rattle.ldm_actions.specs.OpenFiles.{ShutsGone, UsesFile, all_shut, file_no, file_side, flushed_in, shut_in, store_finished};
+ghost use Rattle.ldm_actions.specs.OpenFiles.{BeginsFile, KeepsFiles, KeepsOr, OpensAfter, ShutsGone, UsesFile};
+ghost use Rattle.ldm_actions.specs.OpenFiles.{all_shut, file_no, file_side, flushed_in, shut_in, store_finished};
 
 use crate::answers::Begun;
 use crate::options::FileOptions;
@@ -44,7 +44,7 @@ fn open<F: Store>(store: &mut F, gone: Option<usize>, path: &str) -> Result<File
 }
 
 // Opens the file of a path that is not kept. Its entry is there before the first call, so want of memory opens no file
-// and shuts none; it is taken out again where no file was opened.
+// and shuts none.
 fn use_new<F: Store>(files: &mut Recent, store: &mut F, path: &str) -> Begun
     requires keeps { KeepsFiles (file_side files.old (F.tells store.old)) }
     requires unknown { number_under path.now files.old ≡ None }
@@ -59,10 +59,7 @@ fn use_new<F: Store>(files: &mut Recent, store: &mut F, path: &str) -> Begun
             files.set_number(path, file.0);
             Begun::Ready
         }
-        Err(Failed) => {
-            files.take_newest();
-            Begun::StoreFault
-        }
+        Err(Failed) => Begun::StoreFault,
     }
 }
 
@@ -113,19 +110,6 @@ fn shut_newest<F: Store>(files: &mut Recent, store: &mut F) -> Result<(), Failed
     match files.take_newest() {
         Some(number) => store.shut(FileNo(number)),
         None => Ok(()),
-    }
-}
-
-/// Keeps the file that was used last no more, if there is one: it is shut, or cannot be.
-pub(crate) fn forget_newest<F: Store>(files: &mut Recent, store: &mut F)
-    requires { KeepsFiles (file_side files.old (F.tells store.old)) }
-    ensures { ForgetsFirst (file_side files.old (F.tells store.old)) (file_side files.new (F.tells store.new)) }
-{
-    match files.take_newest() {
-        Some(number) => {
-            let _ = store.shut(FileNo(number));
-        }
-        None => {}
     }
 }
 

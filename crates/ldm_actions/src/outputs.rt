@@ -1,8 +1,8 @@
 //! Outputs: files that are kept open and programs that run on, from one action to the next.
 ghost use Rattle.std.specs.Prelude.{◌≡◌, IfOk};
 ghost use Rattle.ldm_actions.specs.Hands.{action_of};
-ghost use Rattle.ldm_actions.specs.Outputs.{Begins, BeginsHand, Closes, Finishes, Gives, GoesAhead, HasHand};
-ghost use Rattle.ldm_actions.specs.Outputs.{KeepsAll, KeepsOfAny, Mends, no_outputs, standing};
+ghost use Rattle.ldm_actions.specs.Outputs.{Begins, BeginsHand, Closes, Finishes, Gives, HasHand};
+ghost use Rattle.ldm_actions.specs.Outputs.{KeepsOfAny, KeepsUnlessSpent, no_outputs, standing};
 
 use crate::action::Action;
 use crate::answers::{Begun, Done, Fault};
@@ -20,15 +20,13 @@ use std::marker::Model;
 /// An action is begun by [`begin`](Outputs::begin), is given the body by [`piece`](Outputs::piece), and is finished by
 /// [`finish`](Outputs::finish). Each call has to be lent the store and the launcher that all calls before were lent,
 /// and nobody else may shut what is kept there. After a fault it is spent: each call answers that fault again and
-/// touches nothing, until [`mend`](Outputs::mend) lets it go on.
+/// touches nothing.
 #[derive(Drop)]
 pub struct Outputs {
     files: Recent,
     piped: Recent,
     hand: Option<Hand>,
     spent: Option<Fault>,
-    // The status of the last program that was waited for, until it is asked for.
-    status: Option<u32>,
 }
 
 impl Model for Outputs {
@@ -50,7 +48,6 @@ impl Outputs {
             piped: Recent::new(alloc)?,
             hand: None,
             spent: None,
-            status: None,
         })
     }
 
@@ -63,35 +60,26 @@ impl Outputs {
         launcher: &mut L,
         action: &Action,
     ) -> Begun
-        requires { KeepsAll (standing self.old (F.tells store.old) (L.tells launcher.old)) }
+        requires { KeepsUnlessSpent (standing self.old (F.tells store.old) (L.tells launcher.old)) }
         ensures begun { Begins result (action_of action.now)
             (standing self.old (F.tells store.old) (L.tells launcher.old))
             (standing self.new (F.tells store.new) (L.tells launcher.new)) }
-        ensures keeps { KeepsAll (standing self.new (F.tells store.new) (L.tells launcher.new)) }
+        ensures keeps { KeepsUnlessSpent (standing self.new (F.tells store.new) (L.tells launcher.new)) }
         ensures in_hand { BeginsHand result self.new }
     {
         if let Some(fault) = self.spent {
             return fault.begun();
         }
-        match steps::begin(
-            &mut self.files,
-            &mut self.piped,
-            store,
-            launcher,
-            action,
-            &mut self.status,
-        ) {
+        match steps::begin(&mut self.files, &mut self.piped, store, launcher, action) {
             Begun::Ready => {
                 self.hand = Some(Hand::of(action));
                 Begun::Ready
             }
             Begun::StoreFault => {
-                self.hand = None;
                 self.spent = Some(Fault::Store);
                 Begun::StoreFault
             }
             Begun::LaunchFault => {
-                self.hand = None;
                 self.spent = Some(Fault::Launch);
                 Begun::LaunchFault
             }
@@ -106,12 +94,12 @@ impl Outputs {
         launcher: &mut L,
         bytes: &[u8],
     ) -> Done
-        requires keeps { KeepsAll (standing self.old (F.tells store.old) (L.tells launcher.old)) }
+        requires keeps { KeepsUnlessSpent (standing self.old (F.tells store.old) (L.tells launcher.old)) }
         requires in_hand { HasHand self.old }
         ensures given { Gives result bytes.now
             (standing self.old (F.tells store.old) (L.tells launcher.old))
             (standing self.new (F.tells store.new) (L.tells launcher.new)) }
-        ensures keeps { KeepsAll (standing self.new (F.tells store.new) (L.tells launcher.new)) }
+        ensures keeps { KeepsUnlessSpent (standing self.new (F.tells store.new) (L.tells launcher.new)) }
         ensures in_hand { HasHand self.new }
     {
         if let Some(fault) = self.spent {
@@ -134,27 +122,22 @@ impl Outputs {
     /// Finishes the action in hand: its file is flushed and then shut, or its program's input is shut and the program
     /// is waited for, where its options say so.
     pub fn finish<F: Store, L: Launcher>(&mut self, store: &mut F, launcher: &mut L) -> Done
-        requires keeps { KeepsAll (standing self.old (F.tells store.old) (L.tells launcher.old)) }
+        requires keeps { KeepsUnlessSpent (standing self.old (F.tells store.old) (L.tells launcher.old)) }
         requires in_hand { HasHand self.old }
         ensures finished { Finishes result
             (standing self.old (F.tells store.old) (L.tells launcher.old))
             (standing self.new (F.tells store.new) (L.tells launcher.new)) }
-        ensures keeps { KeepsAll (standing self.new (F.tells store.new) (L.tells launcher.new)) }
+        ensures keeps { KeepsUnlessSpent (standing self.new (F.tells store.new) (L.tells launcher.new)) }
     {
         if let Some(fault) = self.spent {
             return fault.done();
         }
         let hand = self.hand.unwrap();
-        self.hand = None;
-        match steps::finish(
-            &mut self.files,
-            &mut self.piped,
-            store,
-            launcher,
-            hand,
-            &mut self.status,
-        ) {
-            Done::Ok => Done::Ok,
+        match steps::finish(&mut self.files, &mut self.piped, store, launcher, hand) {
+            Done::Ok => {
+                self.hand = None;
+                Done::Ok
+            }
             Done::StoreFault => {
                 self.spent = Some(Fault::Store);
                 Done::StoreFault
@@ -169,18 +152,20 @@ impl Outputs {
     /// Shuts all files, and then shuts the input of each program and waits for it: the longest unused first. An action
     /// that is in hand is forgotten, and what it wrote stands.
     pub fn close_all<F: Store, L: Launcher>(&mut self, store: &mut F, launcher: &mut L) -> Done
-        requires { KeepsAll (standing self.old (F.tells store.old) (L.tells launcher.old)) }
+        requires { KeepsUnlessSpent (standing self.old (F.tells store.old) (L.tells launcher.old)) }
         ensures closed { Closes result
             (standing self.old (F.tells store.old) (L.tells launcher.old))
             (standing self.new (F.tells store.new) (L.tells launcher.new)) }
-        ensures keeps { KeepsAll (standing self.new (F.tells store.new) (L.tells launcher.new)) }
+        ensures keeps { KeepsUnlessSpent (standing self.new (F.tells store.new) (L.tells launcher.new)) }
     {
         if let Some(fault) = self.spent {
             return fault.done();
         }
-        self.hand = None;
         match steps::close(&mut self.files, &mut self.piped, store, launcher) {
-            Done::Ok => Done::Ok,
+            Done::Ok => {
+                self.hand = None;
+                Done::Ok
+            }
             Done::StoreFault => {
                 self.spent = Some(Fault::Store);
                 Done::StoreFault
@@ -190,56 +175,5 @@ impl Outputs {
                 Done::LaunchFault
             }
         }
-    }
-
-    /// Lets it go on after a fault. The action that failed is in hand no more. Where its body was being written, its file
-    /// is shut, or its program's input is shut and the program is waited for; where that fails, too, the file stays open
-    /// in the store and is kept no more, and the program is let go. What other actions keep is as it was.
-    ///
-    /// Nothing is touched where there was no fault.
-    pub fn mend<F: Store, L: Launcher>(&mut self, store: &mut F, launcher: &mut L)
-        requires { KeepsAll (standing self.old (F.tells store.old) (L.tells launcher.old)) }
-        ensures mended { Mends
-            (standing self.old (F.tells store.old) (L.tells launcher.old))
-            (standing self.new (F.tells store.new) (L.tells launcher.new)) }
-        ensures keeps { KeepsAll (standing self.new (F.tells store.new) (L.tells launcher.new)) }
-    {
-        match self.spent {
-            None => {}
-            Some(_) => self.go_on(store, launcher),
-        }
-    }
-
-    // Mends what the action in hand left, if one is in hand.
-    fn go_on<F: Store, L: Launcher>(&mut self, store: &mut F, launcher: &mut L)
-        requires { KeepsAll (standing self.old (F.tells store.old) (L.tells launcher.old)) }
-        ensures goes_on { GoesAhead
-            (standing self.old (F.tells store.old) (L.tells launcher.old))
-            (standing self.new (F.tells store.new) (L.tells launcher.new)) }
-        ensures keeps { KeepsAll (standing self.new (F.tells store.new) (L.tells launcher.new)) }
-    {
-        self.spent = None;
-        match self.hand {
-            None => {}
-            Some(hand) => {
-                self.hand = None;
-                steps::mend(
-                    &mut self.files,
-                    &mut self.piped,
-                    store,
-                    launcher,
-                    hand,
-                    &mut self.status,
-                )
-            }
-        }
-    }
-
-    /// The status of the program that was last waited for, by an action or by [`mend`](Outputs::mend), if it was not
-    /// asked for since.
-    pub fn take_status(&mut self) -> Option<u32>
-        ensures { self.new ≡ self.old }
-    {
-        self.status.take()
     }
 }

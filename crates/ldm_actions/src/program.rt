@@ -1,7 +1,7 @@
 //! Programs that actions start.
 ghost use Rattle.std.specs.Prelude.{◌≡◌, ◌<◌, IfOk, string_bytes, vec_len};
-ghost use Rattle.ldm_outside.specs.Launcher.{IsNotWaitedFor, spelled};
-ghost use Rattle.ldm_actions.specs.Programs.{Executes, StartsProgram, WaitsOrLetsGo};
+ghost use Rattle.ldm_outside.specs.Launcher.{spelled};
+ghost use Rattle.ldm_actions.specs.Programs.{Executes, StartsProgram};
 ghost use Rattle.ldm_actions.specs.World.{command_of};
 
 use ldm_outside::{ChildNo, Failed, Launcher};
@@ -54,41 +54,16 @@ impl Program {
     }
 
     /// Starts it without a pipe, and waits for it or lets it go.
-    pub(crate) fn execute<L: Launcher>(
-        &self,
-        launcher: &mut L,
-        wait: bool,
-        status: &mut Option<u32>,
-    ) -> Result<(), Failed>
+    pub(crate) fn execute<L: Launcher>(&self, launcher: &mut L, wait: bool) -> Result<(), Failed>
         ensures { Executes result self.now wait (L.tells launcher.old) (L.tells launcher.new) }
     {
         let child = self.start(launcher, false)?;
         if wait {
-            return wait_for(launcher, child, status);
-        }
-        launcher.detach(child);
-        Ok(())
-    }
-}
-
-/// Waits for a child: its status is noted. One that cannot be waited for is let go, since nobody is to wait for it again.
-pub(crate) fn wait_for<L: Launcher>(
-    launcher: &mut L,
-    child: ChildNo,
-    status: &mut Option<u32>,
-) -> Result<(), Failed>
-    requires { IsNotWaitedFor child (L.tells launcher.old) }
-    ensures { WaitsOrLetsGo result child (L.tells launcher.old) (L.tells launcher.new) }
-{
-    match launcher.wait(child) {
-        Ok(said) => {
-            *status = Some(said);
-            Ok(())
-        }
-        Err(Failed) => {
+            launcher.wait(child)?;
+        } else {
             launcher.detach(child);
-            Err(Failed)
         }
+        Ok(())
     }
 }
 

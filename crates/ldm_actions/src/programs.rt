@@ -1,34 +1,26 @@
 //! Programs that run under PIPE.
 ghost use Rattle.std.specs.Prelude.{◌≡◌, IfSome, None};
 ghost use Rattle.ldm_outside.specs.Launcher.{IsTaking};
-ghost use Rattle.ldm_actions.specs.Effects.{Child, finished_by, with_first_over};
+ghost use Rattle.ldm_actions.specs.Effects.{Child, closed, finished_by, with_first_over};
 ghost use Rattle.ldm_actions.specs.Kept.{number_under};
 ghost use Rattle.ldm_actions.specs.Parts.{finish_parts_by};
-ghost use Rattle.ldm_actions.specs.Programs.{BeginsProgram, ChangesOr, ClosesPrograms, EndsChild, EndsGone};
-ghost use Rattle.ldm_actions.specs.Programs.{KeepsPrograms, StartsAfter, first_parts, last_parts, program_side, with_last_over};
+ghost use Rattle.ldm_actions.specs.Programs.{BeginsProgram, ChangesOr, EndsChild, EndsGone, KeepsPrograms, StartsAfter};
+ghost use Rattle.ldm_actions.specs.Programs.{closing_parts, first_parts, last_parts, program_side, with_last_over};
 ghost use Rattle.ldm_actions.specs.World.{child_no, command_of};
 
 use crate::answers::Begun;
-use crate::program::{Program, wait_for};
+use crate::program::Program;
 use crate::recent::Recent;
 use ldm_outside::{ChildNo, Failed, Launcher};
 
-// Shuts the input of a child, and waits for it: its status is noted. Where a call fails the child is let go.
-fn end<L: Launcher>(
-    launcher: &mut L,
-    child: ChildNo,
-    status: &mut Option<u32>,
-) -> Result<(), Failed>
+// Shuts the input of a child, and waits for it.
+fn end<L: Launcher>(launcher: &mut L, child: ChildNo) -> Result<(), Failed>
     requires { IsTaking child (L.tells launcher.old) }
     ensures { EndsChild result child (L.tells launcher.old) (L.tells launcher.new) }
 {
-    match launcher.shut(child) {
-        Ok(()) => wait_for(launcher, child, status),
-        Err(Failed) => {
-            launcher.detach(child);
-            Err(Failed)
-        }
-    }
+    launcher.shut(child)?;
+    launcher.wait(child)?;
+    Ok(())
 }
 
 // Ends the program that was written longest ago, if there is one.
@@ -39,24 +31,20 @@ fn end_oldest<L: Launcher>(programs: &mut Recent, launcher: &mut L) -> Result<()
         (program_side programs.new (L.tells launcher.new)) }
 {
     match programs.take_oldest() {
-        Some(number) => end(launcher, ChildNo(number), &mut None),
+        Some(number) => end(launcher, ChildNo(number)),
         None => Ok(()),
     }
 }
 
-/// Ends the program that was written last, if there is one.
-pub(crate) fn end_newest<L: Launcher>(
-    programs: &mut Recent,
-    launcher: &mut L,
-    status: &mut Option<u32>,
-) -> Result<(), Failed>
+// Ends the program that was written last, if there is one.
+fn end_newest<L: Launcher>(programs: &mut Recent, launcher: &mut L) -> Result<(), Failed>
     requires { KeepsPrograms (program_side programs.old (L.tells launcher.old)) }
     ensures { ChangesOr result with_first_over first_parts
         (program_side programs.old (L.tells launcher.old))
         (program_side programs.new (L.tells launcher.new)) }
 {
     match programs.take_newest() {
-        Some(number) => end(launcher, ChildNo(number), status),
+        Some(number) => end(launcher, ChildNo(number)),
         None => Ok(()),
     }
 }
@@ -67,7 +55,7 @@ fn end_gone<L: Launcher>(launcher: &mut L, gone: Option<usize>) -> Result<(), Fa
     ensures { EndsGone gone result (L.tells launcher.old) (L.tells launcher.new) }
 {
     match gone {
-        Some(number) => end(launcher, ChildNo(number), &mut None),
+        Some(number) => end(launcher, ChildNo(number)),
         None => Ok(()),
     }
 }
@@ -86,7 +74,7 @@ fn start<L: Launcher>(
 }
 
 // Starts a program under a command that is not kept. Its entry is there before the first call, so want of memory starts
-// no program and ends none; it is taken out again where no program runs under it.
+// no program and ends none.
 fn use_new<L: Launcher>(
     programs: &mut Recent,
     launcher: &mut L,
@@ -108,10 +96,7 @@ fn use_new<L: Launcher>(
             programs.set_number(command, child.0);
             Begun::Ready
         }
-        Err(Failed) => {
-            programs.take_newest();
-            Begun::LaunchFault
-        }
+        Err(Failed) => Begun::LaunchFault,
     }
 }
 
@@ -156,7 +141,6 @@ pub(crate) fn finish<L: Launcher>(
     programs: &mut Recent,
     launcher: &mut L,
     close: bool,
-    status: &mut Option<u32>,
 ) -> Result<(), Failed>
     requires { KeepsPrograms (program_side programs.old (L.tells launcher.old)) }
     ensures { ChangesOr result (finished_by Child close) (finish_parts_by Child close)
@@ -164,7 +148,7 @@ pub(crate) fn finish<L: Launcher>(
         (program_side programs.new (L.tells launcher.new)) }
 {
     if close {
-        return end_newest(programs, launcher, status);
+        return end_newest(programs, launcher);
     }
     Ok(())
 }
@@ -172,7 +156,7 @@ pub(crate) fn finish<L: Launcher>(
 /// Ends all, from the one that was written longest ago to the one that was written last.
 pub(crate) fn close_all<L: Launcher>(programs: &mut Recent, launcher: &mut L) -> Result<(), Failed>
     requires { KeepsPrograms (program_side programs.old (L.tells launcher.old)) }
-    ensures { ClosesPrograms result
+    ensures { ChangesOr result closed closing_parts
         (program_side programs.old (L.tells launcher.old))
         (program_side programs.new (L.tells launcher.new)) }
 {

@@ -1,8 +1,7 @@
 //! What each call on outputs does to the files and programs that are kept.
 ghost use Rattle.std.specs.Prelude.{◌≡◌};
 ghost use Rattle.ldm_actions.specs.Hands.{action_of, seen_with};
-ghost use Rattle.ldm_actions.specs.Outputs.{BeginsKept, ClosesKept, FinishesKept, GivesKept, IsOfKept};
-ghost use Rattle.ldm_actions.specs.Outputs.{Keeps, MendsKept, kept_in};
+ghost use Rattle.ldm_actions.specs.Outputs.{BeginsKept, ClosesKept, FinishesKept, GivesKept, IsOfKept, Keeps, kept_in};
 
 use crate::action::Action;
 use crate::answers::{Begun, Done};
@@ -19,7 +18,6 @@ pub(crate) fn begin<F: Store, L: Launcher>(
     store: &mut F,
     launcher: &mut L,
     action: &Action,
-    status: &mut Option<u32>,
 ) -> Begun
     requires { Keeps (kept_in files.old piped.old (F.tells store.old) (L.tells launcher.old)) }
     ensures { BeginsKept result (action_of action.now)
@@ -31,7 +29,7 @@ pub(crate) fn begin<F: Store, L: Launcher>(
             open_files::begin(files, store, path.as_str(), *options)
         }
         Action::ToProgram { program, .. } => programs::begin(piped, launcher, program),
-        Action::Start { program, wait } => match program.execute(launcher, *wait, status) {
+        Action::Start { program, wait } => match program.execute(launcher, *wait) {
             Ok(()) => Begun::Ready,
             Err(Failed) => Begun::LaunchFault,
         },
@@ -74,7 +72,6 @@ pub(crate) fn finish<F: Store, L: Launcher>(
     store: &mut F,
     launcher: &mut L,
     hand: Hand,
-    status: &mut Option<u32>,
 ) -> Done
     requires keeps { Keeps (kept_in files.old piped.old (F.tells store.old) (L.tells launcher.old)) }
     requires hand { IsOfKept (seen_with files.old hand).target files.old piped.old }
@@ -88,33 +85,10 @@ pub(crate) fn finish<F: Store, L: Launcher>(
             Ok(()) => Done::Ok,
             Err(Failed) => Done::StoreFault,
         },
-        Place::Child => match programs::finish(piped, launcher, hand.close, status) {
+        Place::Child => match programs::finish(piped, launcher, hand.close) {
             Ok(()) => Done::Ok,
             Err(Failed) => Done::LaunchFault,
         },
-    }
-}
-
-/// Shuts the file, or ends the program, of an action that failed on the way.
-pub(crate) fn mend<F: Store, L: Launcher>(
-    files: &mut Recent,
-    piped: &mut Recent,
-    store: &mut F,
-    launcher: &mut L,
-    hand: Hand,
-    status: &mut Option<u32>,
-)
-    requires { Keeps (kept_in files.old piped.old (F.tells store.old) (L.tells launcher.old)) }
-    ensures { MendsKept (seen_with files.old hand).target
-        (kept_in files.old piped.old (F.tells store.old) (L.tells launcher.old))
-        (kept_in files.new piped.new (F.tells store.new) (L.tells launcher.new)) }
-{
-    match hand.place {
-        Place::Nowhere => {}
-        Place::File => open_files::forget_newest(files, store),
-        Place::Child => {
-            let _ = programs::end_newest(piped, launcher, status);
-        }
     }
 }
 

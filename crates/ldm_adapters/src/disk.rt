@@ -1,15 +1,16 @@
 //! A file of the system, as a disk.
 ghost use Rattle.std.specs.Prelude.{◌≡◌, ◌≤◌, false, None};
+ghost use Rattle.std.specs.Io.{ReadsAtMost};
 ghost use Rattle.ldm_disk.specs.Calls.{Rises};
 ghost use Rattle.ldm_outside.specs.Count.{Rose};
 ghost use Rattle.ldm_adapters.specs.Front.{GivesPlace};
 ghost use Rattle.ldm_adapters.specs.Told.{told_by_disk};
 
-use crate::queue_file::QueueFile;
-use crate::telling::tell;
 use ldm_disk::Disk;
-use ldm_outside::{Failed, Got, Reason, Reasons};
+use ldm_outside::{Failed, Got};
+use std::fs::{self, File, OpenOptions};
 use std::io::{self, ErrorKind};
+use std::os::unix::fs::FileExt;
 use std::rt::HostRuntime;
 
 // How many bytes are gathered at most before the system is called to write them.
@@ -22,50 +23,27 @@ const GATHERED: usize = 131_072;
 ///
 /// `attach` refuses what is no regular file without waiting for it, and a file that another program has locked. It
 /// makes a missing file, and no folder. The lock ends with the disk, or at the next `attach`.
-///
-/// Of a call that failed it [keeps](Reasons) the path and what the system said; and of a file that was attached, that
-/// it is a journal, where it is to be none.
 #[derive(Drop)]
 pub struct RealDisk {
     rt: HostRuntime,
-    file: Option<QueueFile>,
-    is_journal: bool,
+    file: Option<File>,
     faults: u64,
     // What was written and the file has not got yet, and the place where it goes.
     gathered: Vec<u8>,
     place: u64,
-    why: Reason,
 }
 
 impl RealDisk {
-    /// A disk of this system, to which no file is attached yet. A journal that is attached is read, and not written.
+    /// A disk of this system, to which no file is attached yet.
     pub fn new(rt: HostRuntime) -> RealDisk
-        ensures { told_by_disk result ≡ record { faults = 0; attached = false; file = None } }
-    {
-        RealDisk::with(rt, false)
-    }
-
-    /// The same for the journal of a node. A file that it makes is its owner's alone. A file that is lengthened gets
-    /// its room at once. A sync fails where the path leads to another file by then or to none, or where the file begins
-    /// otherwise than a journal.
-    pub fn of_journal(rt: HostRuntime) -> RealDisk
-        ensures { told_by_disk result ≡ record { faults = 0; attached = false; file = None } }
-    {
-        RealDisk::with(rt, true)
-    }
-
-    // A disk for a journal, or for anything else.
-    fn with(rt: HostRuntime, is_journal: bool) -> RealDisk
         ensures { told_by_disk result ≡ record { faults = 0; attached = false; file = None } }
     {
         RealDisk {
             rt,
             file: None,
-            is_journal,
             faults: 0,
             gathered: Vec::new(rt.alloc()),
             place: 0,
-            why: Reason::new(),
         }
     }
 
@@ -85,11 +63,13 @@ impl RealDisk {
             return Ok(());
         }
         let written = match &self.file {
-            Some(file) => file.write(self.place, self.gathered.as_slice()),
-            None => Err(not_attached()),
+            Some(file) => file
+                .write_all_at(self.gathered.as_slice(), self.place)
+                .is_ok(),
+            None => false,
         };
         self.gathered.clear();
-        self.note(written)
+        if written { Ok(()) } else { Err(self.fail()) }
     }
 
     // Gathers a piece behind what is gathered, where there is room, and nothing stands between. It answers whether it did.
@@ -109,48 +89,8 @@ impl RealDisk {
         self.gathered.extend_from_slice(piece).is_ok()
     }
 
-    // Cuts the file, when nothing is gathered. The zeros that a journal is filled with stand where pieces are gathered.
-    fn cut_file(&mut self, len: u64) -> io::Result<()>
-        ensures attached { self.new.file ≡ self.old.file }
-        ensures kept { self.new.faults ≡ self.old.faults }
-    {
-        self.gathered.clear();
-        if self.is_journal {
-            self.gathered.resize(GATHERED, 0)?;
-        }
-        let done = match &self.file {
-            Some(file) => file.cut(len, self.gathered.as_slice()),
-            None => Err(not_attached()),
-        };
-        self.gathered.clear();
-        done
-    }
-
-    // What a call came to: where the system failed, the fault is counted, and what it said kept.
-    fn note(&mut self, done: io::Result<()>) -> Result<(), Failed>
-        ensures attached { self.new.file ≡ self.old.file }
-        ensures rises { Rises result (told_by_disk self.old) (told_by_disk self.new) }
-    {
-        match done {
-            Ok(()) => Ok(()),
-            Err(error) => Err(self.fail(&error)),
-        }
-    }
-
-    // Counts a fault at the file, and keeps what the system said.
-    fn fail(&mut self, error: &io::Error) -> Failed
-        ensures counted { self.new ≡ record self.old { faults = self.new.faults; why = self.new.why } }
-        ensures rose { Rose self.old.faults self.new.faults }
-        ensures kept { self.old.faults ≤ self.new.faults }
-    {
-        if let Some(file) = &self.file {
-            tell(&mut self.why, file.path().as_bytes(), error);
-        }
-        self.count()
-    }
-
     // Counts a fault.
-    fn count(&mut self) -> Failed
+    fn fail(&mut self) -> Failed
         ensures counted { self.new ≡ record self.old { faults = self.new.faults } }
         ensures rose { Rose self.old.faults self.new.faults }
         ensures kept { self.old.faults ≤ self.new.faults }
@@ -158,28 +98,6 @@ impl RealDisk {
         self.faults = self.faults.saturating_add(1);
         Failed
     }
-}
-
-// One read at a place, of which it keeps what the system said. A file has no bytes at its end, nor past it.
-fn read_place(file: &QueueFile, at: u64, into: &mut [u8], why: &mut Reason) -> Got
-    ensures { GivesPlace result into.new }
-{
-    if into.is_empty() {
-        return Got::Bytes(0);
-    }
-    match file.read(at, into) {
-        Ok(0) => Got::End,
-        Ok(n) => Got::Bytes(n),
-        Err(error) => {
-            tell(why, file.path().as_bytes(), &error);
-            Got::Failed
-        }
-    }
-}
-
-// The error of a call without a file.
-fn not_attached() -> io::Error {
-    io::Error::from(ErrorKind::NotFound)
 }
 
 impl Disk for RealDisk {
@@ -193,31 +111,20 @@ impl Disk for RealDisk {
         let _ = self.flush();
         // the lock on the file that was attached before ends here
         self.file = None;
-        self.why.clear();
-        match QueueFile::attach(self.rt, path, self.is_journal) {
+        match attach(self.rt, path) {
             Ok(file) => {
-                if let Some(objection) = file.objection() {
-                    tell(&mut self.why, path.as_bytes(), &objection);
-                }
                 self.file = Some(file);
                 Ok(())
             }
-            Err(error) => {
-                tell(&mut self.why, path.as_bytes(), &error);
-                Err(self.count())
-            }
+            Err(_) => Err(self.fail()),
         }
     }
 
     fn len(&mut self) -> Result<u64, Failed> {
         self.flush()?;
-        let found = match &self.file {
-            Some(file) => file.len(),
-            None => Err(not_attached()),
-        };
-        match found {
-            Ok(len) => Ok(len),
-            Err(error) => Err(self.fail(&error)),
+        match self.file.as_ref().map(File::metadata) {
+            Some(Ok(found)) => Ok(found.len()),
+            _ => Err(self.fail()),
         }
     }
 
@@ -226,18 +133,18 @@ impl Disk for RealDisk {
             return Got::Failed;
         }
         let got = match &self.file {
-            Some(file) => read_place(file, at, into, &mut self.why),
+            Some(file) => read_place(file, at, into),
             None => Got::Failed,
         };
         if got == Got::Failed {
-            self.count();
+            self.fail();
         }
         got
     }
 
     fn write_at(&mut self, at: u64, piece: &[u8]) -> Result<(), Failed> {
         if self.file.is_none() {
-            return Err(self.fail(&not_attached()));
+            return Err(self.fail());
         }
         if self.gather(at, piece) {
             return Ok(());
@@ -246,31 +153,87 @@ impl Disk for RealDisk {
         if self.gather(at, piece) {
             return Ok(());
         }
-        let written = match &self.file {
-            Some(file) => file.write(at, piece),
-            None => Err(not_attached()),
-        };
-        self.note(written)
+        match self.file.as_ref().map(|file| file.write_all_at(piece, at)) {
+            Some(Ok(())) => Ok(()),
+            _ => Err(self.fail()),
+        }
     }
 
     fn cut(&mut self, len: u64) -> Result<(), Failed> {
         self.flush()?;
-        let done = self.cut_file(len);
-        self.note(done)
+        match self.file.as_ref().map(|file| file.set_len(len)) {
+            Some(Ok(())) => Ok(()),
+            _ => Err(self.fail()),
+        }
     }
 
     fn sync(&mut self) -> Result<(), Failed> {
         self.flush()?;
-        let done = match &self.file {
-            Some(file) => file.sync(),
-            None => Err(not_attached()),
-        };
-        self.note(done)
+        match self.file.as_ref().map(File::sync_data) {
+            Some(Ok(())) => Ok(()),
+            _ => Err(self.fail()),
+        }
     }
 }
 
-impl Reasons for RealDisk {
-    fn reason(&self) -> &[u8] {
-        self.why.as_slice()
+// One read at a place. A file has no bytes at its end, nor past it.
+fn read_place(file: &File, at: u64, into: &mut [u8]) -> Got
+    ensures { GivesPlace result into.new }
+{
+    if into.is_empty() {
+        return Got::Bytes(0);
+    }
+    match read_uninterrupted(file, at, into) {
+        Ok(0) => Got::End,
+        Ok(n) => Got::Bytes(n),
+        Err(_) => Got::Failed,
+    }
+}
+
+// One read, tried again each time a signal interrupts it.
+fn read_uninterrupted(file: &File, at: u64, into: &mut [u8]) -> io::Result<usize>
+    ensures { ReadsAtMost result into.new }
+{
+    for _ in 0..u64::MAX {
+        match file.read_at(into, at) {
+            Err(error) if error.kind() == ErrorKind::Interrupted => {}
+            answer => return answer,
+        }
+    }
+    Err(io::Error::from(ErrorKind::TimedOut))
+}
+
+// Opens the file under the path, and makes it where it is missing. What is no regular file is refused before it is
+// opened: the opening of a FIFO would wait for its other end.
+fn open(rt: HostRuntime, path: &str) -> io::Result<File> {
+    match fs::metadata(&rt, path) {
+        Ok(found) if !found.is_file() => Err(io::Error::from(ErrorKind::Unsupported)),
+        Err(error) if error.kind() != ErrorKind::NotFound => Err(error),
+        _ => {
+            let mut how = OpenOptions::new();
+            how.read(true).write(true).create(true);
+            how.open(&rt, path)
+        }
+    }
+}
+
+// Opens the file under the path and locks it, and brings to the disk what is pending. The entry of an empty file may
+// be new, and is brought there too.
+fn attach(rt: HostRuntime, path: &str) -> io::Result<File> {
+    let file = open(rt, path)?;
+    file.try_lock()?;
+    file.sync_all()?;
+    if file.metadata()?.len() == 0 {
+        fs::open(&rt, folder_of(path))?.sync_all()?;
+    }
+    Ok(file)
+}
+
+// The folder in which the file under a path lies.
+fn folder_of(path: &str) -> &str {
+    match path.rfind('/') {
+        Some(0) => "/",
+        Some(at) => &path[..at],
+        None => ".",
     }
 }

@@ -176,7 +176,7 @@ fn next_peer(
     let Some(host) = host_of(address) else {
         return Err(io::Error::from(ErrorKind::InvalidData));
     };
-    let link = RealLink::new(stream, timeouts.at_door(), beats)?;
+    let link = RealLink::new(stream, timeouts, beats)?;
     Ok(Some((host, link)))
 }
 
@@ -211,8 +211,8 @@ impl Door for RealDoor {
     }
 
     fn give_back(&mut self, link: RealLink) {
-        self.links.take_back(link);
         self.entry.give_back();
+        self.links.take_back(link);
         self.left = self.left.saturating_sub(1);
         if self.left == 0 {
             self.leave();

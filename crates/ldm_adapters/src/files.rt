@@ -4,7 +4,6 @@ ghost use Rattle.ldm_outside.specs.Count.{Rose};
 ghost use Rattle.ldm_outside.specs.Numbered.{with_number};
 ghost use Rattle.ldm_adapters.specs.Front.{TakesSome};
 
-use crate::queue_file::longest_file;
 use crate::streams::write_some;
 use crate::telling::tell;
 use ldm_outside::{Failed, FileNo, FileRead, Put, Reason, Reasons, Store};
@@ -46,29 +45,8 @@ impl RealFile {
     fn write(&self, piece: &[u8]) -> io::Result<usize>
         ensures { IfOk result (λ n. TakesSome n piece.now) }
     {
-        let n = self.room_for(piece)?;
         let mut file = &self.file;
-        write_some(&mut file, &piece[..n])
-    }
-
-    // How many bytes of a piece stand before the limit of the process, past which the system would end it by a signal.
-    fn room_for(&self, piece: &[u8]) -> io::Result<usize>
-        ensures { IfOk result (λ n. TakesSome n piece.now) }
-    {
-        let longest = longest_file();
-        if longest == u64::MAX {
-            return Ok(piece.len());
-        }
-        let len = self.file.metadata()?.len();
-        if len >= longest {
-            return Err(io::Error::from_raw_os_error(libc::EFBIG));
-        }
-        let room = longest - len;
-        if room < piece.len() as u64 {
-            Ok(room as usize)
-        } else {
-            Ok(piece.len())
-        }
+        write_some(&mut file, piece)
     }
 
     fn empty(&self) -> io::Result<()> {

@@ -24,7 +24,6 @@ mod lobby;
 mod net;
 mod pace;
 mod processes;
-mod queue_file;
 mod resting;
 mod seats;
 mod standard;
@@ -45,8 +44,8 @@ pub use keeper::NO_ROOM_SECONDS;
 pub use lending::RealLending;
 pub use limited::PEER_MILLISECONDS;
 pub use links::{
-    CONNECT_SECONDS, FED_REPLY_SECONDS, GRACE_SECONDS, REPLY_SECONDS, REQUEST_SECONDS, RealLink,
-    SILENT_SECONDS, STALLED_SECONDS, Timeouts,
+    CONNECT_SECONDS, GRACE_SECONDS, REPLY_SECONDS, REQUEST_SECONDS, RealLink, SILENT_SECONDS,
+    STALLED_SECONDS, Timeouts,
 };
 pub use net::{RealDesk, RealNet, RealStation};
 pub use pace::SLOWEST_RATE;

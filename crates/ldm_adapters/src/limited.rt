@@ -10,28 +10,13 @@ use crate::streams::{told_of_read, told_of_write};
 use ldm_outside::{Awaited, Got, Put};
 use std::io::{self, ErrorKind, Read, Write};
 use std::net::{Shutdown, TcpStream};
-use std::rt::HostRuntime;
-use std::thread;
-use std::time::{CpuClock, Duration, Instant};
+use std::time::{Duration, Instant};
 
 // How long one call of the system waits at most, in seconds: then the time is looked at.
 const STEP_SECONDS: u64 = 5;
 
 // A write that took all of its piece within so many milliseconds did not wait for the peer.
 const AT_ONCE_MILLISECONDS: u64 = 10;
-
-// How many times as long as its answers took of a processor a link rests before the next request is read, or before its
-// door goes on.
-const RESTS: u32 = 9;
-
-// What took less of a processor, in milliseconds, is followed by no rest.
-const QUICK_MILLISECONDS: u64 = 5;
-
-// How long a link rests at most, in seconds.
-const LONGEST_PAUSE_SECONDS: u64 = 20;
-
-// A rest looks each so many milliseconds whether the net is to stop.
-const REST_STEP_MILLISECONDS: u64 = 100;
 
 /// How often the system is asked whether a peer is still there, at most: once in so many milliseconds.
 pub const PEER_MILLISECONDS: u64 = 250;
@@ -56,10 +41,6 @@ pub(crate) struct LimitedStream {
     // when the system was asked last whether the peer is there
     looked: Option<Instant>,
     gone: bool,
-    // the processor time of the thread when bytes of a request came last that nothing was sent for yet
-    asked: Option<Duration>,
-    // how long it is to rest
-    owed: Duration,
     // what says that its net is to stop
     beats: Option<Beats>,
 }
@@ -88,8 +69,6 @@ impl LimitedStream {
             taking: Pace::new(),
             looked: None,
             gone: false,
-            asked: None,
-            owed: Duration::ZERO,
             beats,
         })
     }
@@ -121,44 +100,6 @@ impl LimitedStream {
         let _ = self.stream.shutdown(Shutdown::Both);
     }
 
-    /// Its door lets nobody in before it has rested.
-    pub(crate) fn leave(&self) {
-        let owed = self.owed.saturating_add(rest_behind(self.spent()));
-        if !owed.is_zero() {
-            self.close();
-            rest(&self.limits.rt, &self.beats, owed);
-        }
-    }
-
-    // How much of a processor the requests took so far that nothing was sent for yet.
-    fn spent(&self) -> Duration {
-        let Some(asked) = self.asked else {
-            return Duration::ZERO;
-        };
-        match self.limits.rt.thread_cpu_time() {
-            Ok(now) => now.saturating_sub(asked),
-            Err(_) => Duration::ZERO,
-        }
-    }
-
-    // Bytes of a request came.
-    fn begin_answer(&mut self) {
-        self.asked = self.limits.rt.thread_cpu_time().ok();
-    }
-
-    // The requests were answered.
-    fn end_answer(&mut self) {
-        self.owed = self.owed.saturating_add(rest_behind(self.spent()));
-        self.asked = None;
-    }
-
-    // Before more of a request is read.
-    fn rest(&mut self) {
-        self.end_answer();
-        rest(&self.limits.rt, &self.beats, self.owed);
-        self.owed = Duration::ZERO;
-    }
-
     fn now(&self) -> io::Result<Instant> {
         Instant::now(&self.limits.rt)
     }
@@ -167,9 +108,6 @@ impl LimitedStream {
     fn read_within(&mut self, into: &mut [u8], awaited: Awaited) -> io::Result<usize>
         ensures { ReadsAtMost result into.new }
     {
-        if self.serves(awaited) {
-            self.rest();
-        }
         let mut began = self.now()?;
         let mut now = began;
         self.await_from(awaited, began);
@@ -190,9 +128,6 @@ impl LimitedStream {
                 }
                 Ok(count) => {
                     self.passes(awaited, now, count);
-                    if self.awaited == Awaited::Request {
-                        self.begin_answer();
-                    }
                     return Ok(count);
                 }
                 Err(error) => return Err(error),
@@ -206,14 +141,6 @@ impl LimitedStream {
         match &self.beats {
             Some(beats) if beats.is_over() => Err(io::Error::from(ErrorKind::ConnectionAborted)),
             _ => Ok(()),
-        }
-    }
-
-    // Whether a request is awaited, or the rest of one.
-    fn serves(&self, awaited: Awaited) -> bool {
-        match awaited {
-            Awaited::Rest => self.awaited == Awaited::Request,
-            _ => awaited == Awaited::Request,
         }
     }
 
@@ -293,7 +220,6 @@ impl LimitedStream {
     fn write_within(&mut self, piece: &[u8]) -> io::Result<usize>
         ensures { WritesAtMost result piece.now }
     {
-        self.end_answer();
         let mut began = self.now()?;
         let mut now = began;
         for _ in 0..u64::MAX {
@@ -351,33 +277,6 @@ impl LimitedStream {
             Err(error) if error.kind() == ErrorKind::WouldBlock => Ok(true),
             Err(error) => Err(error),
         }
-    }
-}
-
-// How long a link rests behind what took so much of a processor.
-fn rest_behind(spent: Duration) -> Duration {
-    if spent < Duration::from_millis(QUICK_MILLISECONDS) {
-        return Duration::ZERO;
-    }
-    spent
-        .saturating_mul(RESTS)
-        .min(Duration::from_secs(LONGEST_PAUSE_SECONDS))
-}
-
-// Rests so long, unless the net is to stop.
-fn rest(rt: &HostRuntime, beats: &Option<Beats>, time: Duration) {
-    let step = Duration::from_millis(REST_STEP_MILLISECONDS);
-    let mut left = time;
-    for _ in 0..u64::MAX {
-        let over = match beats {
-            Some(beats) => beats.is_over(),
-            None => false,
-        };
-        if left.is_zero() || over {
-            return;
-        }
-        thread::sleep(rt, left.min(step));
-        left = left.saturating_sub(step);
     }
 }
 

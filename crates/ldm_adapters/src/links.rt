@@ -24,9 +24,6 @@ pub const REQUEST_SECONDS: u64 = 60;
 /// How long a link waits for a reply and its rest, in seconds, from the last bytes that were sent on.
 pub const REPLY_SECONDS: u64 = 120;
 
-/// The same of a link that came to a door: who is fed holds a product until it replies.
-pub const FED_REPLY_SECONDS: u64 = 20;
-
 /// How long a link waits for the rest of a record, and in writes for its peer to take bytes, beside the time that the
 /// bytes which moved take at [`SLOWEST_RATE`](crate::SLOWEST_RATE), in seconds.
 pub const GRACE_SECONDS: u64 = 20;
@@ -63,14 +60,6 @@ impl Timeouts {
             request: Duration::from_secs(REQUEST_SECONDS),
             reply: Duration::from_secs(REPLY_SECONDS),
             grace: Duration::from_secs(GRACE_SECONDS),
-        }
-    }
-
-    /// Those of a link that comes to a door: for a reply [`FED_REPLY_SECONDS`] at most.
-    pub(crate) fn at_door(self) -> Timeouts {
-        Timeouts {
-            reply: self.reply.min(Duration::from_secs(FED_REPLY_SECONDS)),
-            ..self
         }
     }
 }
@@ -112,10 +101,9 @@ impl RealLink {
         })
     }
 
-    // It is given back. Its door goes on behind the rest that its answers cost.
+    // It is given back.
     pub(crate) fn end(&self) {
         self.pulse.end();
-        self.stream.leave();
     }
 
     // Whether it ended, and whether it failed.

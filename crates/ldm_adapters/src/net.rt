@@ -99,7 +99,7 @@ fn furnish(rt: HostRuntime, common: &mut Common) -> io::Result<RealDesk>
 {
     let beats = common.beats(rt)?;
     Ok(Desk {
-        disk: RealDisk::of_journal(rt),
+        disk: RealDisk::new(rt),
         log: RealSink::new(rt.alloc(), StationLog::new(rt, beats.share()?)),
         clock: RealClock::new(rt),
         gate: RealGate::of_desk(rt, Resting::of_desk(rt, beats)?),
@@ -307,11 +307,7 @@ impl Desks for RealNet {
 }
 
 impl Reasons for RealNet {
-    // What a disk says comes first: its desk is kept since the disk failed, or since a node is done.
     fn reason(&self) -> &[u8] {
-        match &self.kept_desk {
-            Some(desk) if !desk.disk.reason().is_empty() => desk.disk.reason(),
-            _ => self.dial.reason(),
-        }
+        self.dial.reason()
     }
 }

@@ -1,14 +1,11 @@
 -- The lines of warnings and those of faults.
-use Rattle.std.proofs.Common.{◌≡◌, ◌∙◌, ℕ, Bool, true, false, if◌then◌else◌, inl, inr, List, [], ◌∷◌, ◌++◌, codes, decimal, map, ap, sym, append_assoc, arith}
+use Rattle.std.proofs.Common.{◌≡◌, ◌∙◌, ℕ, inl, inr, List, [], ◌∷◌, ◌++◌, codes, decimal, map, ap, sym, append_assoc, arith}
 use Rattle.std.proofs.lemmas.List.{append_cancel_left}
 use Rattle.ldm_conf.specs.declared.fault.ConfKind.{ConfKind}
 use Rattle.ldm_conf.specs.declared.fault.ConfKind.TheVariants as conf
 use Rattle.ldm_pqact_conf.specs.declared.fault.PqactKind.{PqactKind}
 use Rattle.ldm_pqact_conf.specs.declared.fault.PqactKind.TheVariants as pqact
-use Rattle.ldm_text.specs.Words.{words_of}
-use Rattle.ldm_text.specs.declared.words.Comments.TheVariants.{Hash}
-use Rattle.ldm_command_files.specs.Mistakes.{has_large_port, has_space_in_action, has_star, has_star_for_pattern, has_tab}
-use Rattle.ldm_command_files.specs.Words.{conf_words, pattern_words, pqact_words, star_words}
+use Rattle.ldm_command_files.specs.Words.{conf_words, pqact_words}
 use Rattle.ldm_outside.specs.Putting.{shown}
 use Rattle.ldm_check.specs.Law.{IsFaultWords, IsNoFault}
 use Rattle.ldm_check.specs.Lines.{fault_line, file_line, text_behind}
@@ -19,48 +16,27 @@ first_byte [] = 0
 first_byte (byte ∷ bytes) = byte
 
 -- no words of a fault begin with a `w` (119), as a warning does
-other_either : (first : Bool) (x y a b : List ℕ) → (119 ∷ a ≡ x ++ b → ⊥) → (119 ∷ a ≡ y ++ b → ⊥) → 119 ∷ a ≡ (if first then x else y) ++ b → ⊥
-other_either true x y a b no_x no_y is = no_x is
-other_either false x y a b no_x no_y is = no_y is
+other_conf : (kind : ConfKind) (a b : List ℕ) → 119 ∷ a ≡ conf_words kind ++ b → ⊥
+other_conf conf.Keyword a b is = let first : 119 ≡ 110 = ap first_byte is in omega (arith, first)
+other_conf conf.Fields a b is = let first : 119 ≡ 116 = ap first_byte is in omega (arith, first)
+other_conf conf.Feed a b is = let first : 119 ≡ 110 = ap first_byte is in omega (arith, first)
+other_conf conf.Pattern a b is = let first : 119 ≡ 97 = ap first_byte is in omega (arith, first)
+other_conf conf.Depth a b is = let first : 119 ≡ 97 = ap first_byte is in omega (arith, first)
+other_conf conf.Store a b is = let first : 119 ≡ 116 = ap first_byte is in omega (arith, first)
+other_conf conf.Long a b is = let first : 119 ≡ 116 = ap first_byte is in omega (arith, first)
+other_conf conf.OutOfMemory a b is = let first : 119 ≡ 110 = ap first_byte is in omega (arith, first)
 
-other_pattern : (is_star : Bool) (a b : List ℕ) → 119 ∷ a ≡ (if is_star then star_words else pattern_words) ++ b → ⊥
-other_pattern is_star a b is =
-    other_either is_star star_words pattern_words a b
-    (λ is. let first : 119 ≡ 97 = ap first_byte is in omega (arith, first))
-    (λ is. let first : 119 ≡ 97 = ap first_byte is in omega (arith, first)) is
-
-other_conf : (kind : ConfKind) (line a b : List ℕ) → 119 ∷ a ≡ conf_words kind line ++ b → ⊥
-other_conf conf.Keyword line a b is = let first : 119 ≡ 110 = ap first_byte is in omega (arith, first)
-other_conf conf.Fields line a b is =
-    other_either (has_large_port (words_of Hash line).words) (codes "a port above 65535")
-    (codes "too few words, too many, or one of a wrong form") a b
-    (λ is. let first : 119 ≡ 97 = ap first_byte is in omega (arith, first))
-    (λ is. let first : 119 ≡ 116 = ap first_byte is in omega (arith, first)) is
-other_conf conf.Feed line a b is = let first : 119 ≡ 110 = ap first_byte is in omega (arith, first)
-other_conf conf.Pattern line a b is = other_pattern (has_star (words_of Hash line).words) a b is
-other_conf conf.Depth line a b is = let first : 119 ≡ 97 = ap first_byte is in omega (arith, first)
-other_conf conf.Store line a b is = let first : 119 ≡ 116 = ap first_byte is in omega (arith, first)
-other_conf conf.Long line a b is = let first : 119 ≡ 116 = ap first_byte is in omega (arith, first)
-other_conf conf.OutOfMemory line a b is = let first : 119 ≡ 110 = ap first_byte is in omega (arith, first)
-
-other_pqact : (kind : PqactKind) (line a b : List ℕ) → 119 ∷ a ≡ pqact_words kind line ++ b → ⊥
-other_pqact pqact.Fields line a b is =
-    other_either (has_tab line) (codes "too few fields, too many, or one of a wrong form")
-    (codes "too few fields: tabs part them, and here is none") a b
-    (λ is. let first : 119 ≡ 116 = ap first_byte is in omega (arith, first))
-    (λ is. let first : 119 ≡ 116 = ap first_byte is in omega (arith, first)) is
-other_pqact pqact.Feed line a b is = let first : 119 ≡ 110 = ap first_byte is in omega (arith, first)
-other_pqact pqact.Pattern line a b is = other_pattern (has_star_for_pattern line) a b is
-other_pqact pqact.Action line a b is =
-    other_either (has_space_in_action line) (codes "no such action: a tab ends its name, and no space") (codes "no such action") a b
-    (λ is. let first : 119 ≡ 110 = ap first_byte is in omega (arith, first))
-    (λ is. let first : 119 ≡ 110 = ap first_byte is in omega (arith, first)) is
-other_pqact pqact.Option line a b is = let first : 119 ≡ 110 = ap first_byte is in omega (arith, first)
-other_pqact pqact.OutOfMemory line a b is = let first : 119 ≡ 110 = ap first_byte is in omega (arith, first)
+other_pqact : (kind : PqactKind) (a b : List ℕ) → 119 ∷ a ≡ pqact_words kind ++ b → ⊥
+other_pqact pqact.Fields a b is = let first : 119 ≡ 116 = ap first_byte is in omega (arith, first)
+other_pqact pqact.Feed a b is = let first : 119 ≡ 110 = ap first_byte is in omega (arith, first)
+other_pqact pqact.Pattern a b is = let first : 119 ≡ 97 = ap first_byte is in omega (arith, first)
+other_pqact pqact.Action a b is = let first : 119 ≡ 110 = ap first_byte is in omega (arith, first)
+other_pqact pqact.Option a b is = let first : 119 ≡ 110 = ap first_byte is in omega (arith, first)
+other_pqact pqact.OutOfMemory a b is = let first : 119 ≡ 110 = ap first_byte is in omega (arith, first)
 
 other : (words a b : List ℕ) → IsFaultWords words → 119 ∷ a ≡ words ++ b → ⊥
-other words a b (inl conf) is = other_conf conf.0 conf.1 a b (rw conf.2 at is)
-other words a b (inr pqact) is = other_pqact pqact.0 pqact.1 a b (rw pqact.2 at is)
+other words a b (inl conf) is = other_conf conf.0 a b (rw conf.1 at is)
+other words a b (inr pqact) is = other_pqact pqact.0 a b (rw pqact.1 at is)
 
 -- behind the same place
 behind : (place words a b : List ℕ) → IsFaultWords words → place ++ 119 ∷ a ≡ place ++ (words ++ b) → ⊥

@@ -1,11 +1,9 @@
 -- What is warned of in a line or an entry: what is seen of a pattern without reading it, and of a path or the name of a
 -- program.
-use Rattle.std.specs.Prelude.{ℕ, Bool, true, false, ◌==◌, ◌&&◌, ◌||◌, not, nat_eq, nat_le, if◌then◌else◌, List, [], ◌∷◌, ◌++◌, codes, take, drop, Option, Some, None}
-use Rattle.std.specs.Char.{is_ascii_digit}
-use Rattle.std.specs.List.{position_or_len, prefix_len, starts_with}
+use Rattle.std.specs.Prelude.{ℕ, Bool, true, false, ◌==◌, ◌&&◌, ◌||◌, nat_le, if◌then◌else◌, List, [], ◌∷◌, ◌++◌, codes, take, drop, Option, Some, None}
+use Rattle.std.specs.List.{position_or_len, prefix_len}
 use Rattle.std.specs.Str.{str_eq_ignore_ascii_case}
-use Rattle.ldm_text.specs.Blanks.{begins_with, is_blank}
-use Rattle.ldm_conf.specs.declared.request.Request.{Request}
+use Rattle.ldm_text.specs.Blanks.{is_blank}
 use Rattle.ldm_feedtype.specs.Reading.{feed_number}
 use Rattle.ldm_check.specs.declared.patterns.Place.{Place}
 use Rattle.ldm_check.specs.declared.patterns.Place.TheVariants as place
@@ -55,50 +53,6 @@ has_name_at at (byte ∷ bytes) = is_literal at && is_letter byte || has_name_at
 abbrev pub has_name : List ℕ → Bool
 has_name pattern = has_name_at place.Plain pattern
 
--- whether a byte there is found as a slash (47), which no address has
-abbrev pub is_slash : Place → ℕ → Bool
-is_slash place.Plain byte = byte == 47
-is_slash place.Escaped byte = byte == 47
-is_slash place.Class byte = false
-is_slash place.EscapedInClass byte = false
-is_slash place.Opened byte = byte == 47
-is_slash place.Flags byte = false
-
--- whether a slash stands for itself in what is left of a pattern, from that place on
-abbrev pub has_slash_at : Place → List ℕ → Bool
-has_slash_at at [] = false
-has_slash_at at (byte ∷ bytes) = is_slash at byte || has_slash_at (place_behind at byte) bytes
-
-abbrev pub has_slash : List ℕ → Bool
-has_slash pattern = has_slash_at place.Plain pattern
-
--- a pattern without the `^` (94) that it begins with
-abbrev pub behind_caret : List ℕ → List ℕ
-behind_caret [] = []
-behind_caret (byte ∷ bytes) = if byte == 94 then bytes else byte ∷ bytes
-
-abbrev pub begins_in_digit : List ℕ → Bool
-begins_in_digit [] = false
-begins_in_digit (byte ∷ bytes) = is_ascii_digit byte
-
--- a dot (46) before a digit
-abbrev pub begins_in_dot : List ℕ → Bool
-begins_in_dot [] = false
-begins_in_dot (byte ∷ bytes) = byte == 46 && begins_in_digit bytes
-
--- whether what parts the numbers of an address stands here: a colon (58), `\.`, `[.]`, or a dot before a digit
-abbrev pub begins_in_point : List ℕ → Bool
-begins_in_point text =
-    begins_with 58 text || starts_with nat_eq text (codes "\\.") || starts_with nat_eq text (codes "[.]") || begins_in_dot text
-
--- whether digits stand here, and then what parts the numbers of an address
-abbrev pub begins_in_number : List ℕ → Bool
-begins_in_number text = begins_in_digit text && begins_in_point (drop (prefix_len is_ascii_digit text) text)
-
--- whether a pattern begins as one of addresses does, perhaps behind a `^`
-abbrev pub is_of_hosts : List ℕ → Bool
-is_of_hosts pattern = begins_in_number (behind_caret pattern)
-
 -- whether a byte there may be found as a slash or a dot: a dot (46), a slash (47), a negated class (94), or an escape of
 -- upper case
 abbrev pub may_be_slash : Place → ℕ → Bool
@@ -146,22 +100,21 @@ second_field line = field_of (behind_blanks (drop (position_or_len (λ byte. byt
 
 -- ---- rules
 
--- whom an ALLOW or an ACCEPT line meets, and the pattern of idents that an ACCEPT line has in front of that
+-- whom an ALLOW or an ACCEPT line meets
 pub record RuleWords : Type 0 where
   pub feedtype : List ℕ
-  pub pattern : List ℕ
   pub host : List ℕ
 
 -- `ACCEPT feedtype pattern hostpattern`, by what stands behind the pattern
-abbrev pub accept_words : List ℕ → List ℕ → List (List ℕ) → Option RuleWords
-accept_words feedtype pattern [] = None
-accept_words feedtype pattern (host ∷ words) = Some (record { feedtype = feedtype; pattern = pattern; host = host })
+abbrev pub accept_words : List ℕ → List (List ℕ) → Option RuleWords
+accept_words feedtype [] = None
+accept_words feedtype (host ∷ words) = Some (record { feedtype = feedtype; host = host })
 
 -- by the keyword, and the words behind it
 abbrev pub by_keyword : List ℕ → List ℕ → List ℕ → List (List ℕ) → Option RuleWords
 by_keyword keyword feedtype word words =
-    if str_eq_ignore_ascii_case (codes "ALLOW") keyword then Some (record { feedtype = feedtype; pattern = []; host = word })
-    else if str_eq_ignore_ascii_case (codes "ACCEPT") keyword then accept_words feedtype word words
+    if str_eq_ignore_ascii_case (codes "ALLOW") keyword then Some (record { feedtype = feedtype; host = word })
+    else if str_eq_ignore_ascii_case (codes "ACCEPT") keyword then accept_words feedtype words
     else None
 
 -- by the words of a line
@@ -174,7 +127,7 @@ rule_words (keyword ∷ feedtype ∷ word ∷ words) = by_keyword keyword feedty
 -- what contracts see of the words of a rule
 abbrev pub rule_view : Option code.RuleWords → Option RuleWords
 rule_view None = None
-rule_view (Some rule) = Some (record { feedtype = rule.feedtype.now; pattern = rule.pattern.now; host = rule.host.now })
+rule_view (Some rule) = Some (record { feedtype = rule.feedtype.now; host = rule.host.now })
 
 -- whether a feedtype has no member, as NONE
 abbrev pub is_empty : Option ℕ → Bool
@@ -200,28 +153,14 @@ entry_warnings path number line (word ∷ words) = word_warnings path number lin
 abbrev pub feedtype_warnings : List ℕ → ℕ → List ℕ → List Warning
 feedtype_warnings path number feedtype = if is_none feedtype then OfLine path number concern.NoMember ∷ [] else []
 
-abbrev pub name_warnings : List ℕ → ℕ → List ℕ → List Warning
-name_warnings path number host = if has_name host then OfLine path number concern.HasName ∷ [] else []
-
-abbrev pub slash_warnings : List ℕ → ℕ → List ℕ → List Warning
-slash_warnings path number host = if has_slash host then OfLine path number concern.HasSlash ∷ [] else []
-
 abbrev pub host_warnings : List ℕ → ℕ → List ℕ → List Warning
-host_warnings path number host = name_warnings path number host ++ slash_warnings path number host
-
--- in an ACCEPT line, by its two patterns; an ALLOW line has none before that of hosts
-abbrev pub order_warnings : List ℕ → ℕ → List ℕ → List ℕ → List Warning
-order_warnings path number pattern host =
-    if is_of_hosts pattern && not (is_of_hosts host) then OfLine path number concern.Swapped ∷ [] else []
-
-abbrev pub pattern_warnings : List ℕ → ℕ → List ℕ → List ℕ → List Warning
-pattern_warnings path number pattern host = host_warnings path number host ++ order_warnings path number pattern host
+host_warnings path number host = if has_name host then OfLine path number concern.HasName ∷ [] else []
 
 -- in a line, if it is an ALLOW or an ACCEPT line
 abbrev pub rule_warnings : List ℕ → ℕ → Option RuleWords → List Warning
 rule_warnings path number None = []
 rule_warnings path number (Some rule) =
-    feedtype_warnings path number rule.feedtype ++ pattern_warnings path number rule.pattern rule.host
+    feedtype_warnings path number rule.feedtype ++ host_warnings path number rule.host
 
 -- at a REQUEST line, where so many stand before it
 abbrev pub request_warnings : List ℕ → ℕ → ℕ → List Warning
@@ -230,15 +169,10 @@ request_warnings path number before =
     else if before == MOST_REQUESTS then OfLine path number concern.NoWorker ∷ []
     else []
 
--- at a REQUEST line of that host (91 is an opening bracket)
-abbrev pub bracket_warnings : List ℕ → ℕ → List ℕ → List Warning
-bracket_warnings path number host = if begins_with 91 host then OfLine path number concern.Brackets ∷ [] else []
-
 -- in a line that asks for this, where so many REQUEST lines stand before it
-abbrev pub asking_warnings : List ℕ → ℕ → ℕ → List Request → List Warning
+abbrev pub asking_warnings : {A : Type 0} → List ℕ → ℕ → ℕ → List A → List Warning
 asking_warnings path number before [] = []
-asking_warnings path number before (request ∷ requests) =
-    request_warnings path number before ++ bracket_warnings path number request.host.items
+asking_warnings path number before (request ∷ requests) = request_warnings path number before
 
 -- at the end of an ldmd.conf, where some ALLOW line lets a tool of this machine in, or none does
 abbrev pub end_warnings : List ℕ → Bool → List Warning

@@ -1,5 +1,5 @@
 -- What looking for the faults of files comes to: what is told of them, in order.
-use Rattle.std.specs.Prelude.{◌≡◌, ℕ, ◌≤◌, List, [], ◌∷◌, ◌++◌, length, Some}
+use Rattle.std.specs.Prelude.{◌≡◌, ℕ, List, [], ◌∷◌, ◌++◌, Some}
 use Rattle.ldm_outside.specs.Reason.{IsReason}
 use Rattle.ldm_outside.specs.Store.{StoreRecord, ReadsFile}
 use Rattle.ldm_outside.specs.declared.store.FileRead.{FileRead}
@@ -17,7 +17,7 @@ use Rattle.ldm_check.specs.PqactFaults.{HasFaults}
 
 -- what is told of the faults of an ldmd.conf, and of the files that it includes: each under the path of its own file
 abbrev pub conf_line : conf.Found → List ℕ
-conf_line found = fault_line found.line.path found.line.number (conf_words found.kind (without_return found.line.text)) (without_return found.line.text)
+conf_line found = fault_line found.line.path found.line.number (conf_words found.kind) (without_return found.line.text)
 
 abbrev pub conf_text : List conf.Found → List ℕ
 conf_text [] = []
@@ -25,7 +25,7 @@ conf_text (found ∷ more) = conf_line found ++ conf_text more
 
 -- and of a pqact.conf under a path
 abbrev pub pqact_line : List ℕ → pqact.Found → List ℕ
-pqact_line path found = fault_line path found.number (pqact_words found.kind (without_return found.text)) (without_return found.text)
+pqact_line path found = fault_line path found.number (pqact_words found.kind) (without_return found.text)
 
 abbrev pub pqact_text : List ℕ → List pqact.Found → List ℕ
 pqact_text path [] = []
@@ -36,13 +36,6 @@ abbrev pub AsksAll : List Asked → StoreRecord → StoreRecord → Type 0
 AsksAll [] old new = new ≡ old
 AsksAll (one ∷ more) old new =
     (mid : StoreRecord) × ReadsFile one.answer one.path LONGEST_CONFIGURATION old mid × AsksAll more mid new
-
--- what came is no longer than a file may be
-abbrev pub IsShort : FileRead → Type 0
-IsShort (read.Bytes bytes) = length bytes.items ≤ LONGEST_CONFIGURATION
-IsShort read.TooLong = Unit {0}
-IsShort read.Failed = Unit {0}
-IsShort read.OutOfMemory = Unit {0}
 
 -- the store, and what was told so far
 pub record Scene : Type 0 where
@@ -69,7 +62,7 @@ pub record TellsPqact (path bytes : List ℕ) (old new : Scene) : Type 0 where
 -- what is told of a file by what reading it gave, and by what is told of its bytes
 abbrev pub TellsRead : (List ℕ → Scene → Scene → Type 0) → FileRead → List ℕ → Scene → Scene → Type 0
 TellsRead Tells (read.Bytes bytes) path old new = Tells bytes.items old new
-TellsRead Tells read.TooLong path old new = new ≡ with_told old (file_line path (conf_words kind.Long []))
+TellsRead Tells read.TooLong path old new = new ≡ with_told old (file_line path (conf_words kind.Long))
 TellsRead Tells read.Failed path old new = (reason : List ℕ) × IsReason reason × (new ≡ with_told old (unread_line path reason))
 TellsRead Tells read.OutOfMemory path old new = ⊥
 

@@ -93,8 +93,7 @@ EachAlone =
 
 -- the words of a fault
 abbrev pub IsFaultWords : List ℕ → Type 0
-IsFaultWords words =
-    ((kind : ConfKind) × (line : List ℕ) × (words ≡ conf_words kind line)) ⊎ ((kind : PqactKind) × (line : List ℕ) × (words ≡ pqact_words kind line))
+IsFaultWords words = ((kind : ConfKind) × (words ≡ conf_words kind)) ⊎ ((kind : PqactKind) × (words ≡ pqact_words kind))
 
 -- A warning of a line is not spelled as a fault of that line, and one of a whole file not as a fault of that file.
 abbrev pub IsNoFault : Warning → Type 0

@@ -1,5 +1,4 @@
 pub mod Lines
-pub mod Large
 pub mod Warnings
 pub mod Concerns
 pub mod Says

@@ -8,9 +8,7 @@ use Rattle.ldm_status.specs.Status.{Reports}
 use Rattle.ldm_status.specs.declared.status.Status.TheVariants as status
 use Rattle.ldm_check.specs.declared.command.TheConstants.{FAULTY}
 use Rattle.ldm_check.specs.Files.{Scene, TellsConfs, TellsPqacts}
-use Rattle.ldm_check.specs.Large.{large_text}
 use Rattle.ldm_check.specs.Programs.{LooksFor}
-use Rattle.ldm_check.specs.declared.large.Large.{Large}
 use Rattle.ldm_check.specs.Warnings.{Warning, warnings_text}
 
 -- what `check` is lent
@@ -56,18 +54,10 @@ pub record Checks (code : ℕ) (confs pqacts : List (List ℕ)) (old new : Check
   pub warnings : List Warning
   pub writes : Writes code faults (faults ++ warnings_text warnings) old new
 
--- Some lines have a pattern that is too large: they were written, behind what was told of the other lines, and before warnings.
-pub record ChecksOthers (code : ℕ) (old new : CheckOutside) : Type 0 where
-  pub others : List ℕ
-  pub first : Large
-  pub more : List Large
-  pub warnings : List Warning
-  pub writes : let faults = others ++ large_text (first ∷ more) in Writes code faults (faults ++ warnings_text warnings) old new
-
 -- there was no memory, and nothing is written
 abbrev pub LacksMemory : ℕ → CheckOutside → CheckOutside → Type 0
 LacksMemory code old new = (new.sink ≡ old.sink) × Reports status.NoMemory code old.log new.log
 
 -- How `check` ends, by the paths that it is told.
 abbrev pub CheckRuns : ℕ → (confs pqacts : List (List ℕ)) → CheckOutside → CheckOutside → Type 0
-CheckRuns code confs pqacts old new = Checks code confs pqacts old new ⊎ (ChecksOthers code old new ⊎ LacksMemory code old new)
+CheckRuns code confs pqacts old new = Checks code confs pqacts old new ⊎ LacksMemory code old new

@@ -1,7 +1,10 @@
 -- What a line of an ldmd.conf says to who looks for faults.
-use Rattle.std.specs.Prelude.{ℕ, List, Result, Ok, Err}
+use Rattle.std.specs.Prelude.{◌≡◌, ℕ, List, [], Option, Result, Ok, Err, MatchOption}
+use Rattle.std.specs.Borrow.{Bor}
 use Rattle.ldm_conf.specs.declared.fault.ConfKind.{ConfKind}
 use Rattle.ldm_conf.specs.Statements.{Statement, Blank, Adds, Includes}
+use Rattle.ldm_text.specs.Words.{with_first, words_of}
+use Rattle.ldm_text.specs.declared.words.Comments.TheVariants.{Hash}
 use Rattle.ldm_check.specs.declared.said.Said as code
 use Rattle.ldm_check.specs.declared.said.Said.TheVariants as said
 
@@ -26,3 +29,9 @@ abbrev pub said_view : code.Said → Says
 said_view (said.Fine conf) = Fine
 said_view (said.Faulty kind) = Wrong kind
 said_view (said.Includes path) = Names path.now
+
+-- the first word of a text, and what stands behind it, if it has one
+abbrev pub IsFirstWord : Option (Bor (List ℕ) × Bor (List ℕ)) → List ℕ → Type 0
+IsFirstWord result text =
+    MatchOption result ((words_of Hash text).words ≡ [])
+    (λ (found : Bor (List ℕ) × Bor (List ℕ)). words_of Hash text ≡ with_first found.0.now (words_of Hash found.1.now))

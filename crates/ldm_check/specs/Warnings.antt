@@ -19,9 +19,6 @@ pub data Warning : Type 0 where
 abbrev pub concern_words : Concern → List ℕ
 concern_words concern.NoMember = codes "the feedtype has no member, so the line lets nobody in"
 concern_words concern.HasName = codes "the host pattern has letters of a name, and hosts are known by their addresses"
-concern_words concern.HasSlash = codes "the host pattern has a slash, and no address has one: 10.1.0.0/16 is ^10[.]1[.]"
-concern_words concern.Swapped = codes "the first pattern is one of hosts, and the last is none: ACCEPT feedtype pattern hostpattern"
-concern_words concern.Brackets = codes "the host is in brackets, and no address is: [::1]:388 is ::1:388"
 concern_words concern.FewWorkers =
     codes "more than 59 REQUEST lines: with the 4 workers of a node without -w they are more than 63"
 concern_words concern.NoWorker = codes "more than 63 REQUEST lines, and a node has no worker for this one"

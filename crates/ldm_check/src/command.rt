@@ -1,10 +1,9 @@
 //! `ldm check`: what is wrong with configuration files.
-ghost use Rattle.std.specs.Prelude.{◌≡◌, ◌≤◌, ◌++◌, ◌⊎◌, IfOk, false};
-ghost use Rattle.ldm_check.specs.Runs.{CheckRuns, ChecksOthers, Finds, LacksMemory, code_by, check_tells, texts_of};
+ghost use Rattle.std.specs.Prelude.{◌≡◌, ◌≤◌, ◌++◌, IfOk};
+ghost use Rattle.ldm_check.specs.Runs.{CheckRuns, Finds, code_by, check_tells, texts_of};
 ghost use Rattle.ldm_check.specs.Warnings.{warning_views, warnings_text};
 
 use crate::conf_file::Search;
-use crate::large::put_large;
 use crate::looking::Form;
 use crate::warning::put_warnings;
 use crate::warnings::Warnings;
@@ -44,44 +43,7 @@ pub fn check<F: Store + Reasons, K: Sink, E: Sink>(
     ensures sink_faults_kept { (K.tells sink.old).faults ≤ (K.tells sink.new).faults }
     ensures log_faults_kept { (E.tells log.old).faults ≤ (E.tells log.new).faults }
 {
-    let Ok(search) = find_all(alloc, asked, store, false) else {
-        return check_others(alloc, asked, store, sink, log);
-    };
-    let code = code_by(search.faults.as_slice());
-    let Ok(text) = joined(search) else {
-        return Status::NoMemory.report(log);
-    };
-    match write_all(sink, text.as_slice()) {
-        Ok(()) => code,
-        Err(SinkFailed) => Status::SinkFault.report(log),
-    }
-}
-
-// Looks at all files once more, where some line may have a pattern that is too large: these lines are told, and all is
-// looked at as if they were blank. Where there is none there was no memory.
-fn check_others<F: Store + Reasons, K: Sink, E: Sink>(
-    alloc: Global,
-    asked: CheckAsked<'_>,
-    store: &mut F,
-    sink: &mut K,
-    log: &mut E,
-) -> u8
-    ensures ends { ChecksOthers result
-        (check_tells (F.tells store.old) (K.tells sink.old) (E.tells log.old))
-        (check_tells (F.tells store.new) (K.tells sink.new) (E.tells log.new))
-        ⊎ LacksMemory result (check_tells (F.tells store.old) (K.tells sink.old) (E.tells log.old))
-        (check_tells (F.tells store.new) (K.tells sink.new) (E.tells log.new)) }
-    ensures store_faults_kept { (F.tells store.old).faults ≤ (F.tells store.new).faults }
-    ensures sink_faults_kept { (K.tells sink.old).faults ≤ (K.tells sink.new).faults }
-    ensures log_faults_kept { (E.tells log.old).faults ≤ (E.tells log.new).faults }
-{
-    let Ok(mut search) = find_all(alloc, asked, store, true) else {
-        return Status::NoMemory.report(log);
-    };
-    let [_, ..] = search.large.as_slice() else {
-        return Status::NoMemory.report(log);
-    };
-    let Ok(()) = put_large(&mut search.faults, search.large.as_slice()) else {
+    let Ok(search) = find_all(alloc, asked, store) else {
         return Status::NoMemory.report(log);
     };
     let code = code_by(search.faults.as_slice());
@@ -99,20 +61,18 @@ fn find_all<F: Store + Reasons>(
     alloc: Global,
     asked: CheckAsked<'_>,
     store: &mut F,
-    eases: bool,
 ) -> Result<Search, OutOfMemory>
-    ensures found { IfOk result (λ search. eases ≡ false → Finds (texts_of asked.entry.confs.now) (texts_of asked.entry.pqacts.now)
+    ensures found { IfOk result (λ search. Finds (texts_of asked.entry.confs.now) (texts_of asked.entry.pqacts.now)
         search.faults.items (F.tells store.old) (F.tells store.new)) }
     ensures faults_kept { (F.tells store.old).faults ≤ (F.tells store.new).faults }
 {
     let mut search = Search {
         faults: Vec::new(alloc),
         warnings: Warnings::new(alloc),
-        large: Vec::new(alloc),
         files: 0,
     };
-    search.look_at_files(alloc, store, asked.confs, Form::Conf, eases)?;
-    search.look_at_files(alloc, store, asked.pqacts, Form::Pqact, eases)?;
+    search.look_at_files(alloc, store, asked.confs, Form::Conf)?;
+    search.look_at_files(alloc, store, asked.pqacts, Form::Pqact)?;
     search.warnings.look_for_programs(alloc, store)?;
     Ok(search)
 }

@@ -1,14 +1,12 @@
 //! The faults of an ldmd.conf, and of the files that it includes.
-ghost use Rattle.std.specs.Prelude.{◌≡◌, ◌++◌, ◌<◌, ◌≤◌, [], ℕ, length, false, OnOk, IfOk, IfSome, MatchOption};
+ghost use Rattle.std.specs.Prelude.{◌≡◌, ◌++◌, ◌<◌, ◌≤◌, [], ℕ, length, OnOk, IfOk, IfSome, MatchOption};
 ghost use Rattle.ldm_conf.specs.Lines.{without_return};
 ghost use Rattle.ldm_text.specs.Lines.{length_left};
 ghost use Rattle.ldm_check.specs.Files.{TellsConf, conf_line};
 ghost use Rattle.ldm_check.specs.Sources.{Fits, left_of, line_in};
 ghost use Rattle.ldm_check.specs.Walks.{GoesOn, GoesTo, Passes, scene_of, state_of};
 
-use crate::large::{Large, read_easing};
 use crate::lines::put_fault;
-use crate::looking::Form;
 use crate::said::{Said, look_at};
 use crate::source::{Line, Lines, without_return};
 use crate::warnings::Warnings;
@@ -25,8 +23,6 @@ pub(crate) struct Search {
     /// What is told of faults.
     pub faults: Vec<u8>,
     pub warnings: Warnings,
-    /// The lines that were passed over, since a pattern of theirs is too large.
-    pub large: Vec<Large>,
     /// How many files of an ldmd.conf came, itself among them.
     pub files: u32,
 }
@@ -39,16 +35,15 @@ impl Search {
         store: &mut F,
         path: &str,
         bytes: &[u8],
-        eases: bool,
     ) -> Result<(), OutOfMemory>
         requires { length bytes.now ≤ LONGEST_CONFIGURATION }
-        ensures told { OnOk result (eases ≡ false → TellsConf path.now bytes.now
+        ensures told { OnOk result (TellsConf path.now bytes.now
             (scene_of (F.tells store.old) self.old) (scene_of (F.tells store.new) self.new)) }
         ensures faults_kept { (F.tells store.old).faults ≤ (F.tells store.new).faults }
     {
         self.files = 1;
         self.warnings.begin();
-        self.look_through(alloc, store, path, Lines::of(0, bytes), eases)?;
+        self.look_through(alloc, store, path, Lines::of(0, bytes))?;
         self.warnings.end(alloc, path)?;
         Ok(())
     }
@@ -60,19 +55,18 @@ impl Search {
         store: &mut F,
         path: &str,
         mut lines: Lines<'_>,
-        eases: bool,
     ) -> Result<(), OutOfMemory>
         requires { Fits lines }
-        ensures passes { OnOk result (eases ≡ false → Passes (F.tells store.old) (F.tells store.new)
+        ensures passes { OnOk result (Passes (F.tells store.old) (F.tells store.new)
             (state_of self.old) (left_of path.now lines.entry) (state_of self.new) []) }
         ensures faults_kept { (F.tells store.old).faults ≤ (F.tells store.new).faults }
     {
         while let Some((line, included)) = self.look_to_include(alloc, path, &mut lines)? {
-            match read_easing(alloc, store, included, Form::Conf, eases, &mut self.large) {
+            match store.read_file(alloc, included, LONGEST_CONFIGURATION as u64) {
                 FileRead::Bytes(bytes) => {
                     self.files += 1;
                     let inner = Lines::of(lines.depth + 1, bytes.as_slice());
-                    self.look_through(alloc, store, included, inner, eases)?;
+                    self.look_through(alloc, store, included, inner)?;
                 }
                 FileRead::TooLong => self.tell(path, &line, ConfKind::Long)?,
                 FileRead::Failed => self.tell(path, &line, ConfKind::Store)?,
@@ -127,7 +121,7 @@ impl Search {
             &mut self.faults,
             path.as_bytes(),
             u64::from(line.number),
-            words_of_conf(kind, without_return(line.text)),
+            words_of_conf(kind),
             without_return(line.text),
         )
     }

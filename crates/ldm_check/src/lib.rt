@@ -3,7 +3,6 @@
 
 mod command;
 mod conf_file;
-mod large;
 mod laws;
 mod lines;
 mod looking;

@@ -1,15 +1,15 @@
 //! The files that are looked at.
-ghost use Rattle.std.specs.Prelude.{◌≡◌, ◌≤◌, OnOk, false};
+ghost use Rattle.std.specs.Prelude.{◌≤◌, OnOk};
 ghost use Rattle.ldm_check.specs.Files.{TellsFile, TellsFiles};
 ghost use Rattle.ldm_check.specs.Runs.{texts_of};
 ghost use Rattle.ldm_check.specs.Walks.{scene_of, tells_by};
 
 use crate::conf_file::Search;
-use crate::large::read_easing;
 use crate::lines::{put_file, put_unread};
 use ldm_command_files::words_of_conf;
 use ldm_conf::ConfKind;
 use ldm_outside::{FileRead, Reasons, Store};
+use ldm_text::LONGEST_CONFIGURATION;
 use ldm_types::OutOfMemory;
 use std::alloc::Global;
 
@@ -31,15 +31,14 @@ impl Search {
         store: &mut F,
         paths: &[&str],
         form: Form,
-        eases: bool,
     ) -> Result<(), OutOfMemory>
-        ensures told { OnOk result (eases ≡ false → TellsFiles (tells_by form) (texts_of paths.entry.now)
+        ensures told { OnOk result (TellsFiles (tells_by form) (texts_of paths.entry.now)
             (scene_of (F.tells store.old) self.old) (scene_of (F.tells store.new) self.new)) }
         ensures faults_kept { (F.tells store.old).faults ≤ (F.tells store.new).faults }
     {
         let mut left = paths;
         while let [path, others @ ..] = left {
-            self.look_at_file(alloc, store, path, form, eases)?;
+            self.look_at_file(alloc, store, path, form)?;
             left = others;
         }
         Ok(())
@@ -52,22 +51,21 @@ impl Search {
         store: &mut F,
         path: &str,
         form: Form,
-        eases: bool,
     ) -> Result<(), OutOfMemory>
-        ensures told { OnOk result (eases ≡ false → TellsFile (tells_by form path.now) path.now
+        ensures told { OnOk result (TellsFile (tells_by form path.now) path.now
             (scene_of (F.tells store.old) self.old) (scene_of (F.tells store.new) self.new)) }
         ensures faults_kept { (F.tells store.old).faults ≤ (F.tells store.new).faults }
     {
-        match read_easing(alloc, store, path, form, eases, &mut self.large) {
+        match store.read_file(alloc, path, LONGEST_CONFIGURATION as u64) {
             FileRead::Bytes(bytes) => match form {
-                Form::Conf => self.look_at_text(alloc, store, path, bytes.as_slice(), eases),
+                Form::Conf => self.look_at_text(alloc, store, path, bytes.as_slice()),
                 Form::Pqact => self.look_at_entries(alloc, path, bytes.as_slice()),
             },
             FileRead::TooLong => {
                 put_file(
                     &mut self.faults,
                     path.as_bytes(),
-                    words_of_conf(ConfKind::Long, b""),
+                    words_of_conf(ConfKind::Long),
                 )?;
                 Ok(())
             }

@@ -66,7 +66,7 @@ impl Search {
             &mut self.faults,
             path.as_bytes(),
             number,
-            words_of_pqact(kind, without_return(line)),
+            words_of_pqact(kind),
             without_return(line),
         )
     }
@@ -174,8 +174,8 @@ fn to_entry(mut cut: Cut<'_>) -> Cut<'_>
     cut
 }
 
-/// Whether no entry begins in a line.
-pub(crate) fn goes_on(line: &[u8]) -> bool
+// Whether no entry begins in a line.
+fn goes_on(line: &[u8]) -> bool
     ensures { result ≡ goes_on line.now }
 {
     begins_with(b'#', line) || is_blank_text(line) || begins_with(b'\t', line)

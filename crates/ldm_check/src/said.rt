@@ -1,9 +1,10 @@
 //! What a line of an ldmd.conf says.
 ghost use Rattle.std.specs.Prelude.{◌≡◌, IfOk};
 ghost use Rattle.ldm_conf.specs.Statements.{meaning_of};
-ghost use Rattle.ldm_check.specs.Says.{said_view, says};
+ghost use Rattle.ldm_check.specs.Says.{IsFirstWord, said_view, says};
 
 use ldm_conf::{Conf, ConfKind, ConfLine, read_conf_line};
+use ldm_text::{Comments, first_word, to_word};
 use ldm_types::OutOfMemory;
 use std::alloc::Global;
 
@@ -28,4 +29,16 @@ pub(crate) fn look_at(alloc: Global, line: &[u8]) -> Result<Said<'_>, OutOfMemor
         Err(ConfKind::OutOfMemory) => Err(OutOfMemory),
         Err(kind) => Ok(Said::Faulty(kind)),
     }
+}
+
+/// The first word of a text without its quotes, and what stands behind it. None comes where there is no word, or where
+/// a quote of it is wrong.
+pub(crate) fn take_word(text: &[u8]) -> Option<(&[u8], &[u8])>
+    ensures { IsFirstWord result text.entry.now }
+{
+    let rest = to_word(Comments::Hash, text);
+    if rest.is_empty() {
+        return None;
+    }
+    first_word(Comments::Hash, rest)
 }

@@ -13,12 +13,6 @@ pub(crate) enum Concern {
     NoMember,
     /// A rule whose pattern of hosts has letters of a name.
     HasName,
-    /// A rule whose pattern of hosts has a slash.
-    HasSlash,
-    /// An ACCEPT line whose patterns stand in the order of those of an ALLOW line.
-    Swapped,
-    /// A REQUEST line whose host is in brackets.
-    Brackets,
     /// The first REQUEST line that leaves too few workers.
     FewWorkers,
     /// The first REQUEST line that is one too many.
@@ -137,13 +131,6 @@ fn words_of(concern: Concern) -> &'static [u8]
         Concern::HasName => {
             b"the host pattern has letters of a name, and hosts are known by their addresses"
         }
-        Concern::HasSlash => {
-            b"the host pattern has a slash, and no address has one: 10.1.0.0/16 is ^10[.]1[.]"
-        }
-        Concern::Swapped => {
-            b"the first pattern is one of hosts, and the last is none: ACCEPT feedtype pattern hostpattern"
-        }
-        Concern::Brackets => { b"the host is in brackets, and no address is: [::1]:388 is ::1:388" }
         Concern::FewWorkers => {
             b"more than 59 REQUEST lines: with the 4 workers of a node without -w they are more than 63"
         }

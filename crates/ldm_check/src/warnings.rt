@@ -9,23 +9,22 @@ ghost use Rattle.ldm_text.specs.declared.words.Comments.TheVariants.{Hash};
 ghost use Rattle.ldm_check.specs.Concerns.{asking_warnings, behind_blanks, end_warnings, entry_warnings, field_of, is_group};
 ghost use Rattle.ldm_check.specs.Concerns.{by_keyword, feedtype_warnings, host_warnings, is_none, names_group};
 ghost use Rattle.ldm_check.specs.Concerns.{request_warnings, rule_view, rule_warnings, rule_words, second_field};
-ghost use Rattle.ldm_check.specs.Concerns.{bracket_warnings, name_warnings, order_warnings, pattern_warnings};
-ghost use Rattle.ldm_check.specs.Concerns.{slash_warnings, word_warnings};
+ghost use Rattle.ldm_check.specs.Concerns.{word_warnings};
 ghost use Rattle.ldm_check.specs.Programs.{LooksFor};
 ghost use Rattle.ldm_check.specs.Warnings.{OfLine, warning_views};
 
-use crate::patterns::{has_name, has_slash, is_of_hosts, may_hold_slash};
+use crate::patterns::{has_name, may_hold_slash};
 use crate::programs::Programs;
+use crate::said::take_word;
 use crate::source::{Line, without_return};
 use crate::warning::{Concern, Warning};
 use arrayvec::ArrayVec;
 use ldm_class::Reduced;
-use ldm_command_files::take_word;
 use ldm_conf::Conf;
 use ldm_feedtype::read_feed;
 use ldm_outside::{Reasons, Store};
 use ldm_pqact_conf::{ActionKind, Entries, Entry, PqactKind, read_pqact};
-use ldm_text::{begins_with, count_blanks, first_line, place_of};
+use ldm_text::{count_blanks, first_line, place_of};
 use ldm_types::{ClassSpec, Feed, Micros, OutOfMemory, Spec};
 use std::alloc::{AllocError, Global};
 
@@ -113,7 +112,7 @@ impl Warnings {
         };
         let number = u64::from(line.number);
         self.look_at_feedtype(alloc, path, number, rule.feedtype)?;
-        self.look_at_patterns(alloc, path, number, rule.pattern, rule.host)
+        self.look_at_host(alloc, path, number, rule.host)
     }
 
     // Warns of a feedtype without members.
@@ -134,24 +133,7 @@ impl Warnings {
         Ok(())
     }
 
-    // Warns by the pattern of hosts of a line, and by the one before it.
-    fn look_at_patterns(
-        &mut self,
-        alloc: Global,
-        path: &str,
-        number: u64,
-        pattern: &[u8],
-        host: &[u8],
-    ) -> Result<(), AllocError>
-        ensures warned { OnOk result (warning_views self.new.list.items
-            ≡ warning_views self.old.list.items ++ pattern_warnings path.now number pattern.now host.now) }
-        ensures requests { self.new.requests ≡ self.old.requests }
-    {
-        self.look_at_host(alloc, path, number, host)?;
-        self.look_at_order(alloc, path, number, pattern, host)
-    }
-
-    // Warns of a pattern of hosts that meets none, by what it has.
+    // Warns of a pattern of hosts that has letters of a name.
     fn look_at_host(
         &mut self,
         alloc: Global,
@@ -163,61 +145,8 @@ impl Warnings {
             ≡ warning_views self.old.list.items ++ host_warnings path.now number host.now) }
         ensures requests { self.new.requests ≡ self.old.requests }
     {
-        self.look_for_name(alloc, path, number, host)?;
-        self.look_for_slash(alloc, path, number, host)
-    }
-
-    // Warns of a pattern of hosts that has letters of a name.
-    fn look_for_name(
-        &mut self,
-        alloc: Global,
-        path: &str,
-        number: u64,
-        host: &[u8],
-    ) -> Result<(), AllocError>
-        ensures warned { OnOk result (warning_views self.new.list.items
-            ≡ warning_views self.old.list.items ++ name_warnings path.now number host.now) }
-        ensures requests { self.new.requests ≡ self.old.requests }
-    {
         if has_name(host) {
             return self.warn(alloc, path, number, Concern::HasName);
-        }
-        Ok(())
-    }
-
-    // Warns of a pattern of hosts that has a slash, as a network in the notation of CIDR.
-    fn look_for_slash(
-        &mut self,
-        alloc: Global,
-        path: &str,
-        number: u64,
-        host: &[u8],
-    ) -> Result<(), AllocError>
-        ensures warned { OnOk result (warning_views self.new.list.items
-            ≡ warning_views self.old.list.items ++ slash_warnings path.now number host.now) }
-        ensures requests { self.new.requests ≡ self.old.requests }
-    {
-        if has_slash(host) {
-            return self.warn(alloc, path, number, Concern::HasSlash);
-        }
-        Ok(())
-    }
-
-    // Warns of an ACCEPT line that names hosts in front of idents, as an ALLOW line does.
-    fn look_at_order(
-        &mut self,
-        alloc: Global,
-        path: &str,
-        number: u64,
-        pattern: &[u8],
-        host: &[u8],
-    ) -> Result<(), AllocError>
-        ensures warned { OnOk result (warning_views self.new.list.items
-            ≡ warning_views self.old.list.items ++ order_warnings path.now number pattern.now host.now) }
-        ensures requests { self.new.requests ≡ self.old.requests }
-    {
-        if is_of_hosts(pattern) && !is_of_hosts(host) {
-            return self.warn(alloc, path, number, Concern::Swapped);
         }
         Ok(())
     }
@@ -234,14 +163,12 @@ impl Warnings {
             ≡ warning_views self.old.list.items ++ asking_warnings path.now line.now.number self.old.requests
             conf.now.requests.items) }
     {
-        let [request, ..] = conf.requests.as_slice() else {
+        let [_, ..] = conf.requests.as_slice() else {
             return Ok(());
         };
         let before = self.requests;
         self.requests = before.saturating_add(1);
-        let number = u64::from(line.number);
-        self.look_at_request(alloc, path, number, before)?;
-        self.look_for_brackets(alloc, path, number, request.host.as_slice())
+        self.look_at_request(alloc, path, u64::from(line.number), before)
     }
 
     // Warns of the first REQUEST line that leaves too few workers, and of the first that is one too many.
@@ -260,23 +187,6 @@ impl Warnings {
         }
         if before == MOST_REQUESTS {
             return self.warn(alloc, path, number, Concern::NoWorker);
-        }
-        Ok(())
-    }
-
-    // Warns of a host in brackets, as an address of IPv6 has them before a port elsewhere.
-    fn look_for_brackets(
-        &mut self,
-        alloc: Global,
-        path: &str,
-        number: u64,
-        host: &[u8],
-    ) -> Result<(), AllocError>
-        ensures { OnOk result (warning_views self.new.list.items
-            ≡ warning_views self.old.list.items ++ bracket_warnings path.now number host.now) }
-    {
-        if begins_with(b'[', host) {
-            return self.warn(alloc, path, number, Concern::Brackets);
         }
         Ok(())
     }
@@ -445,8 +355,6 @@ impl Left<'_> {
 #[derive(Drop)]
 pub(crate) struct RuleWords<'a> {
     pub feedtype: &'a [u8],
-    // Of an ACCEPT line the pattern in front of that of hosts.
-    pub pattern: &'a [u8],
     pub host: &'a [u8],
 }
 
@@ -473,23 +381,18 @@ fn by_keyword<'a>(
     if is_named(b"ALLOW", keyword) {
         return Some(RuleWords {
             feedtype,
-            pattern: b"".as_slice(),
             host: word,
         });
     }
     if is_named(b"ACCEPT", keyword) {
         let (host, _) = take_word(rest)?;
-        return Some(RuleWords {
-            feedtype,
-            pattern: word,
-            host,
-        });
+        return Some(RuleWords { feedtype, host });
     }
     None
 }
 
-/// Whether a word is that name, in letters of either case.
-pub(crate) fn is_named(name: &[u8], word: &[u8]) -> bool
+// Whether a word is that name, in letters of either case.
+fn is_named(name: &[u8], word: &[u8]) -> bool
     ensures { result ≡ str_eq_ignore_ascii_case name.now word.now }
 {
     name.eq_ignore_ascii_case(word)
@@ -527,8 +430,8 @@ fn is_group(byte: u8) -> bool
     matches!(byte, b'1'..=b'9')
 }
 
-/// The second field of a line, between its first tabs and the next one: the pattern of an entry.
-pub(crate) fn second_field(line: &[u8]) -> &[u8]
+// The second field of a line, between its first tabs and the next one: the pattern of an entry.
+fn second_field(line: &[u8]) -> &[u8]
     ensures { result.now ≡ second_field line.now }
 {
     field_of(behind_blanks(behind(line, place_of(b'\t', line))))

@@ -164,7 +164,7 @@ fn check(alloc: Global, pattern: &[u8], place: u32) -> Result<(), ClassFault>
     match Pattern::check(alloc, pattern) {
         Ok(()) => Ok(()),
         Err(Refusal::Meaningless) => Err(ClassFault::BadPattern { spec: place }),
-        Err(Refusal::TooLarge | Refusal::OutOfMemory) => Err(ClassFault::OutOfMemory),
+        Err(Refusal::OutOfMemory) => Err(ClassFault::OutOfMemory),
     }
 }
 
@@ -203,6 +203,6 @@ fn build(
     match BoundedPattern::build(alloc, pattern, most) {
         Ok(built) => Ok(built),
         Err(Refusal::Meaningless) => Err(ClassFault::BadPattern { spec: place }),
-        Err(Refusal::TooLarge | Refusal::OutOfMemory) => Err(ClassFault::OutOfMemory),
+        Err(Refusal::OutOfMemory) => Err(ClassFault::OutOfMemory),
     }
 }

@@ -211,7 +211,7 @@ fn build(alloc: Global, pattern: &[u8], place: u32) -> Result<Pattern, PolicyFau
     match Pattern::build(alloc, pattern) {
         Ok(built) => Ok(built),
         Err(Refusal::Meaningless) => Err(PolicyFault::BadPattern { place }),
-        Err(Refusal::TooLarge | Refusal::OutOfMemory) => Err(PolicyFault::OutOfMemory),
+        Err(Refusal::OutOfMemory) => Err(PolicyFault::OutOfMemory),
     }
 }
 

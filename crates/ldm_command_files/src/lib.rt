@@ -3,11 +3,9 @@
 
 mod conf_file;
 mod included;
-mod mistakes;
 mod pqact_file;
 mod telling;
 
 pub use conf_file::{ConfNotTaken, status_of_conf, take_conf, take_conf_because};
-pub use mistakes::take_word;
 pub use pqact_file::{EntriesNotTaken, status_of_entries, take_entries};
 pub use telling::{words_of_conf, words_of_pqact};

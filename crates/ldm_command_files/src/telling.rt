@@ -1,11 +1,8 @@
 //! What is wrong with a line of a configuration file, in words.
-ghost use Rattle.std.specs.Prelude.{◌≡◌, if◌then◌else◌};
-ghost use Rattle.ldm_command_files.specs.Words.{conf_words, pattern_words, pqact_words, star_words};
+ghost use Rattle.std.specs.Prelude.{◌≡◌};
+ghost use Rattle.ldm_command_files.specs.Words.{conf_words, pqact_words};
 
 use crate::included::IncludedFiles;
-use crate::mistakes::{
-    has_large_port, has_space_in_action, has_star, has_star_for_pattern, has_tab,
-};
 use ldm_conf::{ConfFault, ConfKind};
 use ldm_outside::Reason;
 use ldm_pqact_conf::{PqactFault, PqactKind};
@@ -26,12 +23,13 @@ pub(crate) fn tell_conf(
     included: &IncludedFiles,
     fault: &ConfFault,
 ) {
+    let words = words_of_conf(fault.kind);
     if fault.file == 0 {
-        tell_conf_line(why, path, bytes, fault);
+        tell_line(why, path, bytes, fault.line, words);
         return;
     }
     if let Some(file) = included.find(fault.file) {
-        tell_conf_line(why, file.path(), file.text(), fault);
+        tell_line(why, file.path(), file.text(), fault.line, words);
         return;
     }
     why.clear();
@@ -41,24 +39,12 @@ pub(crate) fn tell_conf(
     why.put(b", line ");
     why.put_number(u64::from(fault.line));
     why.put(b": ");
-    why.put(words_of_conf(fault.kind, b""));
-}
-
-fn tell_conf_line(why: &mut Reason, path: &str, bytes: &[u8], fault: &ConfFault) {
-    let text = line_at(bytes, fault.line);
-    tell_line(why, path, fault.line, words_of_conf(fault.kind, text), text);
+    why.put(words);
 }
 
 /// The same of a fault of a pqact.conf that has these bytes: the text is that of the entry's first line.
 pub(crate) fn tell_pqact(why: &mut Reason, path: &str, bytes: &[u8], fault: &PqactFault) {
-    let text = line_at(bytes, fault.line);
-    tell_line(
-        why,
-        path,
-        fault.line,
-        words_of_pqact(fault.kind, text),
-        text,
-    );
+    tell_line(why, path, bytes, fault.line, words_of_pqact(fault.kind));
 }
 
 /// Makes the reason of a file that has too many bytes.
@@ -66,16 +52,17 @@ pub(crate) fn tell_long(why: &mut Reason, path: &str) {
     why.clear();
     put_path(why, path);
     why.put(b": ");
-    why.put(words_of_conf(ConfKind::Long, b""));
+    why.put(words_of_conf(ConfKind::Long));
 }
 
-fn tell_line(why: &mut Reason, path: &str, line: u32, words: &[u8], text: &[u8]) {
+fn tell_line(why: &mut Reason, path: &str, bytes: &[u8], line: u32, words: &[u8]) {
     why.clear();
     put_path(why, path);
     why.put(b":");
     why.put_number(u64::from(line));
     why.put(b": ");
     why.put(words);
+    let text = line_at(bytes, line);
     if !text.is_empty() {
         why.put(b": ");
         why.put(&text[..text.len().min(LONGEST_SHOWN)]);
@@ -104,21 +91,15 @@ fn line_at(bytes: &[u8], number: u32) -> &[u8] {
     }
 }
 
-/// What is wrong with a line of an ldmd.conf, or with a file of it. The line may show the mistake.
-pub fn words_of_conf(kind: ConfKind, line: &[u8]) -> &'static [u8]
-    ensures { result.now ≡ conf_words kind line.now }
+/// What is wrong with a line of an ldmd.conf, or with a file of it.
+pub fn words_of_conf(kind: ConfKind) -> &'static [u8]
+    ensures { result.now ≡ conf_words kind }
 {
     match kind {
         ConfKind::Keyword => b"no such keyword",
-        ConfKind::Fields => {
-            if has_large_port(line) {
-                b"a port above 65535"
-            } else {
-                b"too few words, too many, or one of a wrong form"
-            }
-        }
+        ConfKind::Fields => b"too few words, too many, or one of a wrong form",
         ConfKind::Feed => b"no such feedtype",
-        ConfKind::Pattern => words_of_pattern(has_star(line)),
+        ConfKind::Pattern => b"a pattern that does not read",
         ConfKind::Depth => b"a file too deep, or one too many",
         ConfKind::Store => b"the file cannot be read",
         ConfKind::Long => b"the file is too long",
@@ -126,39 +107,16 @@ pub fn words_of_conf(kind: ConfKind, line: &[u8]) -> &'static [u8]
     }
 }
 
-/// What is wrong with an entry of a pqact.conf that begins in that line.
-pub fn words_of_pqact(kind: PqactKind, line: &[u8]) -> &'static [u8]
-    ensures { result.now ≡ pqact_words kind line.now }
+/// What is wrong with an entry of a pqact.conf.
+pub fn words_of_pqact(kind: PqactKind) -> &'static [u8]
+    ensures { result.now ≡ pqact_words kind }
 {
     match kind {
-        PqactKind::Fields => {
-            if has_tab(line) {
-                b"too few fields, too many, or one of a wrong form"
-            } else {
-                b"too few fields: tabs part them, and here is none"
-            }
-        }
+        PqactKind::Fields => b"too few fields, too many, or one of a wrong form",
         PqactKind::Feed => b"no such feedtype",
-        PqactKind::Pattern => words_of_pattern(has_star_for_pattern(line)),
-        PqactKind::Action => {
-            if has_space_in_action(line) {
-                b"no such action: a tab ends its name, and no space"
-            } else {
-                b"no such action"
-            }
-        }
+        PqactKind::Pattern => b"a pattern that does not read",
+        PqactKind::Action => b"no such action",
         PqactKind::Option => b"no such option of the action",
         PqactKind::OutOfMemory => b"no memory",
-    }
-}
-
-// The same of a pattern, by whether it seems to be a star alone.
-fn words_of_pattern(is_star: bool) -> &'static [u8]
-    ensures { result.now ≡ (if is_star then star_words else pattern_words) }
-{
-    if is_star {
-        b"a pattern that does not read: for any text write .*"
-    } else {
-        b"a pattern that does not read"
     }
 }

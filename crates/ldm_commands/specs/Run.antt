@@ -21,10 +21,7 @@ use Rattle.ldm_pqstats.specs.Runs.{Pqstats}
 use Rattle.ldm_pqstats.specs.declared.asked.StatsAsked.{StatsAsked}
 use Rattle.ldm_play.specs.Runs.{CheckRuns, ResumeRuns, SaveRuns}
 use Rattle.ldm_tools.specs.Mon.{Mons}
-use Rattle.ldm_wmo.specs.Ingesting.{Ingesting}
 use Rattle.ldm_wmo.specs.Ingests.{Ingests}
-use Rattle.ldm_wmo.specs.Lasting.{LastsSo}
-use Rattle.ldm_wmo.specs.Moments as ingested
 use Rattle.ldm_commands.specs.Command.{Form, has_options, take_memory}
 use Rattle.ldm_commands.specs.Command as form
 use Rattle.ldm_commands.specs.Lent.{IsAskedFor, act_of, asked_of, cat_of, chain_of, check_of, every_of, files_of, ingest_of, ingesting_of, insert_of, inserting_of, mon_of, node_of}
@@ -41,11 +38,6 @@ ReportsUsageIf false code old new = Reports status.Usage code old new
 abbrev pub ReportsUsage : List (List ℕ) → ℕ → SinkRecord → SinkRecord → Type 0
 ReportsUsage [] code old new = Reports status.Usage code old new
 ReportsUsage (first ∷ others) code old new = ReportsUsageIf (has_options first) code old new
-
--- The bulletins of the source were taken over one link; or over one after another, for so many seconds without one.
-abbrev pub IngestsFor : (patience : Option ℕ) → ℕ → Ingesting → ingested.Outside → ingested.Outside → Type 0
-IngestsFor None code all old new = Ingests code all old new
-IngestsFor (Some patience) code all old new = LastsSo code all patience old new
 
 module _ {K F L T : Type 0} (tells : Tells K F L T) where
   -- Nothing was done, but for what the log took.
@@ -79,7 +71,7 @@ module _ {K F L T : Type 0} (tells : Tells K F L T) where
       Cats tells.sink code (order_of cat) (cat_of old) (cat_of new) × (new ≡ with_cat new old)
   Does (form.Notifyme notices) code old new = Notifies code (wanted_of notices) (mon_of tells old) (mon_of tells new) × (new ≡ with_net new old)
   Does (form.Pqmon mon) code old new = Monitors (asked_of mon.peer) mon.every code old new
-  Does (form.Wmo wmo) code old new = IngestsFor wmo.patience code (ingesting_of wmo) (ingest_of tells old) (ingest_of tells new) × (new ≡ with_ingest new old)
+  Does (form.Wmo wmo) code old new = Ingests code (ingesting_of wmo) (ingest_of tells old) (ingest_of tells new) × (new ≡ with_ingest new old)
   Does (form.Pqstats stats) code old new =
       ((asked : StatsAsked) × IsAskedFor stats asked × Pqstats code asked (stats_of tells old) (stats_of tells new)) × (new ≡ with_cat new old)
   Does (form.Save save) code old new = SaveRuns (size_of save) code (saving_of tells old) (saving_of tells new) × (new ≡ with_saving new old)

@@ -17,7 +17,7 @@ use ldm_pqact_command::ActOrder;
 use ldm_pqstats::{StatsAsked, pqstats};
 use ldm_tools::{Insertion, pqinsert, pqmon, pqmon_every};
 use ldm_watch::{NoticeForm, NoticesAsked, notifyme};
-use ldm_wmo::{Framing, Ingestion, Lasting, ingest, ingest_lasting};
+use ldm_wmo::{Framing, Ingestion, ingest};
 use ldm_words::{ActWords, CatWords, InsertWords, MonWords, NoticesWords, StatsWords, WmoWords};
 use std::alloc::Global;
 use std::sync::Wait;
@@ -266,7 +266,7 @@ pub(crate) fn put_bulletins<
     S: Source,
     K: Sink,
     E: Sink,
-    C: Rests,
+    C: Clock,
     F: Store,
     L: Launcher,
     N: Desks + Reasons,
@@ -291,29 +291,15 @@ pub(crate) fn put_bulletins<
         feed: words.feed,
         origin: words.origin,
     };
-    match words.patience {
-        Some(patience) => ingest_lasting(
-            alloc,
-            &mut world.streams.source,
-            &mut world.net,
-            &mut world.streams.sink,
-            &mut world.streams.log,
-            &mut world.clock,
-            &Lasting {
-                ingestion,
-                patience,
-            },
-        ),
-        None => ingest(
-            alloc,
-            &mut world.streams.source,
-            &mut world.net,
-            &mut world.streams.sink,
-            &mut world.streams.log,
-            &mut world.clock,
-            &ingestion,
-        ),
-    }
+    ingest(
+        alloc,
+        &mut world.streams.source,
+        &mut world.net,
+        &mut world.streams.sink,
+        &mut world.streams.log,
+        &mut world.clock,
+        &ingestion,
+    )
 }
 
 // How bulletins stand in a stream: on a line, or in frames.

@@ -1,10 +1,8 @@
 -- Committing: a head is written beside the one that counts, and then it counts.
-use Rattle.std.proofs.Common.{◌≡◌, ◌⊎◌, inl, inr, ⊎_elim, ℕ, ◌+◌, ◌%◌, ◌<◌, ◌≤◌, min, max, Bool, true, false, not, List, [], ◌∷◌, ◌++◌, length, take, drop, get_or, refl, ◌∙◌, ap, arith}
+use Rattle.std.proofs.Common.{◌≡◌, ◌⊎◌, inl, inr, ⊎_elim, ℕ, ◌+◌, ◌%◌, ◌<◌, ◌≤◌, min, max, Bool, true, false, not, List, [], ◌∷◌, ◌++◌, length, get_or, refl, ◌∙◌, ap, arith}
 use Rattle.std.specs.Prelude.{Result, Ok, Err}
 use Rattle.std.proofs.lemmas.Bool.{cases_lt, cases_eq}
-use borrow.Rule.Slice.PartMut.{put_mid}
-use Rattle.std.proofs.Math.Seq.{take-add}
-use Rattle.std.proofs.lemmas.List.{append-nil, append_assoc, drop_all, drop_at, drop-drop, length-append, length-replicate, take_at}
+use Rattle.std.proofs.lemmas.List.{length-append}
 use Rattle.std.proofs.Math.Nat.{mod-lt}
 use Rattle.ldm_outside.specs.declared.fault.Failed.{Failed}
 use Rattle.ldm_disk.specs.Told.{FileRecord, IsConsistent, IsSettled}
@@ -12,77 +10,33 @@ use Rattle.ldm_disk.specs.Model.{Step, IsStep, Torn, Written, PartlyWritten, end
 use Rattle.ldm_disk.specs.Moments.{Goes, LeavesOnly}
 use Rattle.ldm_disk.specs.Calls.{WritesFile, SyncsFile}
 use Rattle.ldm_disk.proofs.CrashLemmas.{started, goes_on, follows_keeps, follows_settled, stays_keeps, settled_leaves}
-use Rattle.md5.specs.Md5.{md5}
-use Rattle.md5.proofs.StandardFacts.{length-md5}
-use Rattle.ldm_journal.specs.declared.places.TheConstants.{SELECT, RING, NOTE, HEAD, SUM, COPY}
+use Rattle.ldm_journal.specs.declared.places.TheConstants.{SELECT, RING, NOTE}
 use Rattle.ldm_journal.specs.declared.marks.Marks.{Marks}
 use Rattle.ldm_journal.specs.Records.{Kept, eight}
-use Rattle.ldm_journal.specs.Format.{place_of, head_of, front_at, zeros}
+use Rattle.ldm_journal.specs.Format.{place_of, front_at}
 use Rattle.ldm_journal.specs.Standing.{Keeps}
 use Rattle.ldm_journal.specs.Sound.{IsSound}
 use Rattle.ldm_journal.specs.Pushing.{CrashKeeps}
-use Rattle.ldm_journal.specs.Committing.{IsSelecting, Selects, WritesHead, head_bytes_of, said_by, select_byte, summed}
+use Rattle.ldm_journal.specs.Committing.{IsSelecting, Selects, WritesHead, head_bytes_of, select_byte}
 use Rattle.ldm_journal.proofs.KeepLemmas.{Agrees, by_marks, from_marks, keeps_by, selected_same, head_within, torn_beside}
 
 -- the two heads stand beside one another
-heads_apart : (odd : Bool) → (place_of odd + COPY + HEAD + SUM ≤ place_of (not odd)) ⊎ (place_of (not odd) + COPY + HEAD + SUM ≤ place_of odd)
+heads_apart : (odd : Bool) → (place_of odd + 24 + NOTE ≤ place_of (not odd)) ⊎ (place_of (not odd) + 24 + NOTE ≤ place_of odd)
 heads_apart false = inl (omega arith)
 heads_apart true = inr (omega arith)
 
-pub length-zeros : (n : ℕ) → length (zeros n) ≡ n
-unfolding zeros
-length-zeros n = length-replicate {A = ℕ} n 0
-
-pub summed_is : (bytes : List ℕ) → summed bytes ≡ bytes ++ md5 bytes
-unfolding summed
-summed_is bytes = refl
-
--- a sum that is put behind what it is of
-pub put_behind : (said sum pad : List ℕ) → length said ≡ HEAD → length pad ≡ SUM → put_mid HEAD SUM (said ++ pad) sum ≡ said ++ sum
-put_behind said sum pad long rest =
-    ap (λ (l : List ℕ). l ++ (sum ++ drop SUM (drop HEAD (said ++ pad)))) (take_at said pad HEAD long)
-    ∙ ap (λ (l : List ℕ). said ++ (sum ++ drop SUM l)) (drop_at said pad HEAD long)
-    ∙ ap (λ (l : List ℕ). said ++ (sum ++ l)) (drop_all SUM pad (omega (arith, rest)))
-    ∙ ap (λ (l : List ℕ). said ++ l) (append-nil sum)
-
--- a head that is put a second time
-pub put_twice : (head pad : List ℕ) → length head ≡ HEAD + SUM → length pad ≡ 2048 → take 472 pad ≡ zeros 472
-    → put_mid COPY (HEAD + SUM) (head ++ pad) head ≡ head ++ (zeros 472 ++ head)
-put_twice head pad long rest blank =
-    let xs = head ++ pad in
-    let whole : length xs ≤ 3624 = omega (arith, length-append head pad, long, rest) in
-    ap (λ (l : List ℕ). l ++ (head ++ drop (HEAD + SUM) (drop COPY xs)))
-    (take-add 1576 472 xs
-    ∙ ap (λ (l : List ℕ). l ++ take 472 (drop 1576 xs)) (take_at head pad 1576 long)
-    ∙ ap (λ (l : List ℕ). head ++ take 472 l) (drop_at head pad 1576 long)
-    ∙ ap (λ (l : List ℕ). head ++ l) blank)
-    ∙ ap (λ (l : List ℕ). (head ++ zeros 472) ++ (head ++ l)) (drop-drop 1576 2048 xs ∙ drop_all 3624 xs whole)
-    ∙ ap (λ (l : List ℕ). (head ++ zeros 472) ++ l) (append-nil head)
-    ∙ append_assoc head (zeros 472) head
-
-pub length-said : (marks : Marks) → length marks.note ≡ NOTE → length (said_by marks) ≡ HEAD
-length-said marks is =
+pub length-head_bytes : (marks : Marks) → length marks.note ≡ NOTE → length (head_bytes_of marks) ≡ 24 + NOTE
+length-head_bytes marks is =
     let numbers = eight marks.front ++ eight marks.used ++ eight marks.next in
     let count : length numbers ≡ 24 = refl in
     omega (arith, length-append numbers marks.note, count, is)
-
-pub length-summed : (marks : Marks) → length marks.note ≡ NOTE → length (summed (said_by marks)) ≡ HEAD + SUM
-length-summed marks is =
-    ap length (summed_is (said_by marks))
-    ∙ omega (arith, length-append (said_by marks) (md5 (said_by marks)), length-said marks is, length-md5 (said_by marks))
-
-pub length-head_bytes : (marks : Marks) → length marks.note ≡ NOTE → length (head_bytes_of marks) ≡ COPY + HEAD + SUM
-length-head_bytes marks is =
-    let one = summed (said_by marks) in
-    let long : length one ≡ HEAD + SUM = length-summed marks is in
-    omega (arith, length-append one (zeros 472 ++ one), length-append (zeros 472) one, length-zeros 472, long)
 
 end_le : (at : ℕ) (piece : List ℕ) → end_of_piece at piece ≤ at + length piece
 end_le at [] = omega arith
 end_le at (byte ∷ rest) = omega arith
 
 -- The head that does not count was torn.
-head_torn : (marks : Marks) (kept : List Kept) (start end : ℕ) (before after : List ℕ) → IsSound marks → start ≡ place_of (not marks.odd) → end ≤ start + COPY + HEAD + SUM
+head_torn : (marks : Marks) (kept : List Kept) (start end : ℕ) (before after : List ℕ) → IsSound marks → start ≡ place_of (not marks.odd) → end ≤ start + 24 + NOTE
     → Torn start end (max (length before) end) before after → Keeps marks kept before → Keeps marks kept after
 head_torn marks kept start end before after sound at to torn keeps =
     let k = by_marks marks kept before keeps in
@@ -92,15 +46,15 @@ head_torn marks kept start end before after sound at to torn keeps =
     let within : end ≤ length before = omega (arith, whole, to, at, other.1) in
     let beside : (q : ℕ) → q < length before → (q < start) ⊎ (end ≤ q) → get_or after q 0 ≡ get_or before q 0 =
     λ q there outside. (torn_beside start end before after q within torn outside).1 there in
-    let agrees : Agrees marks.odd marks.ring before after = record {
+    let agrees : Agrees (place_of marks.odd) marks.ring before after = record {
       long = (torn_beside start end before after 0 within torn (inl (omega (arith, at, other.0)))).0;
       opening = λ q less. beside q (omega (arith, less, whole)) (inl (omega (arith, less, at, other.0)));
       head = λ q from less.
           beside q (omega (arith, less, whole, head.1))
           (⊎_elim (λ before_it. inl (omega (arith, before_it, less, at))) (λ behind_it. inr (omega (arith, behind_it, from, at, to))) (heads_apart marks.odd));
       records = λ i less.
-          (let p = (front_at (head_of marks.odd before) before + i) % marks.ring in
-          let inside : p < marks.ring = mod-lt (front_at (head_of marks.odd before) before + i) {m = marks.ring} (omega (arith, sound.1)) in
+          (let p = (front_at (place_of marks.odd) before + i) % marks.ring in
+          let inside : p < marks.ring = mod-lt (front_at (place_of marks.odd) before + i) {m = marks.ring} (omega (arith, sound.1)) in
           beside (RING + p) (omega (arith, whole, inside)) (inr (omega (arith, to, at, other.1))));
     } in
     from_marks marks kept after (selected_same before after (beside SELECT (omega (arith, whole)) (inl (omega (arith, at, other.0)))) ∙ keeps.odd)
@@ -117,12 +71,12 @@ module _ (before next : Marks) (noted : length next.note ≡ NOTE) (kept : List 
       let at : place_of next.odd ≡ place_of (not before.odd) = ap place_of turned_to in
       omega (arith, at, other.1, private_whole)
 
-  head_end : end_of_piece (place_of next.odd) (head_bytes_of next) ≤ min (place_of next.odd) (length old.bytes) + COPY + HEAD + SUM
+  head_end : end_of_piece (place_of next.odd) (head_bytes_of next) ≤ min (place_of next.odd) (length old.bytes) + 24 + NOTE
   head_end =
       let at : place_of next.odd ≡ place_of (not before.odd) = ap place_of turned_to in
       omega (arith, end_le (place_of next.odd) (head_bytes_of next), length-head_bytes next noted, start_is, at)
 
-  head_keeps : (end : ℕ) (b a : List ℕ) → end ≤ min (place_of next.odd) (length old.bytes) + COPY + HEAD + SUM → Keeps before kept b
+  head_keeps : (end : ℕ) (b a : List ℕ) → end ≤ min (place_of next.odd) (length old.bytes) + 24 + NOTE → Keeps before kept b
       → Torn (min (place_of next.odd) (length old.bytes)) end (max (length b) end) b a → Keeps before kept a
   head_keeps end b a le keeps torn = head_torn before kept (min (place_of next.odd) (length old.bytes)) end b a sound start_is le torn keeps
 

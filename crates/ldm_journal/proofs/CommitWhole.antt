@@ -14,7 +14,6 @@ use Rattle.ldm_journal.specs.Reading.{FaultRose}
 use Rattle.ldm_journal.specs.declared.commit.CommitEnd.TheVariants.{Committed, DiskFault}
 use Rattle.ldm_journal.specs.Records.{Kept, size_of, fitting, IsLawful, AreRising}
 use Rattle.ldm_journal.specs.Format.{around}
-use Rattle.ldm_journal.specs.Damage.{IsTwice}
 use Rattle.ldm_journal.specs.Standing.{Keeps, Stands}
 use Rattle.ldm_journal.specs.Committing.{Commits, DropsFor, EndsCommitting, end_of, HoldsEither, IsLeft, Turns, kept_after}
 use Rattle.ldm_journal.proofs.DropLemmas.{all_lawful}
@@ -69,10 +68,10 @@ module _ (gap dropped : ℕ) (note : List ℕ) (marks : Marks) (old mid : FileRe
       goes_on P old old mid (started P old consistent now) keeps.goes.time (stays_keeps P old mid now keeps.goes.crash)
 
   pub committed_here : (done : Unit {0}) (after : Marks) (new : FileRecord) → Turns (Ok done) dropped note marks after mid new
-      → Stands after left [] new × IsSettled new × LeavesOnly (HoldsEither marks.ring kept marks.note left note) old new × IsTwice new.bytes
+      → Stands after left [] new × IsSettled new × LeavesOnly (HoldsEither marks.ring kept marks.note left note) old new
   committed_here done after new turns =
       let t = turns kept appended left (stands_on marks kept appended old mid keeps stands) is_left in
-      (t.0, t.1, joined (HoldsEither marks.ring kept marks.note left note) old mid new read_leaves t.2, t.3)
+      (t.0, t.1, joined (HoldsEither marks.ring kept marks.note left note) old mid new read_leaves t.2)
 
   pub broken_off : (failed : Failed) (after : Marks) (new : FileRecord) → Turns (Err failed) dropped note marks after mid new → LeavesOnly (HoldsEither marks.ring kept marks.note left note) old new
   broken_off failed after new turns =

@@ -12,7 +12,7 @@ use Rattle.ldm_journal.specs.declared.marks.Marks.{Marks}
 use Rattle.ldm_journal.specs.declared.fault.JournalFault.{JournalFault}
 use Rattle.ldm_journal.specs.declared.fault.JournalFault.TheVariants.{NotAJournal, OtherRing, OtherLength, BadHead, BadRecord, DiskFault, OutOfMemory}
 use Rattle.ldm_journal.specs.Records.{Kept, record_bytes, records_of, size_of, fitting, IsLawful}
-use Rattle.ldm_journal.specs.Format.{around, front_at, head_of}
+use Rattle.ldm_journal.specs.Format.{around, front_at, place_of}
 use Rattle.ldm_journal.specs.Standing.{Stands}
 use Rattle.ldm_journal.specs.Reading.{CountsRecord}
 use Rattle.ldm_journal.specs.Committing.{DropsFor}
@@ -27,7 +27,7 @@ all_records marks kept appended file consistent stands =
     let k = by_marks marks kept file.bytes (stands.crash file.bytes consistent.reads) in
     let first : around marks.ring marks.front marks.used file.bytes ≡ records_of kept =
     ap (λ (n : ℕ). around marks.ring n marks.used file.bytes) (sym k.front)
-    ∙ ap (λ (n : ℕ). around marks.ring (front_at (head_of marks.odd file.bytes) file.bytes) n file.bytes) (sym k.used)
+    ∙ ap (λ (n : ℕ). around marks.ring (front_at (place_of marks.odd) file.bytes) n file.bytes) (sym k.used)
     ∙ k.holds.records in
     around-add marks.ring marks.front marks.used marks.appended file.bytes
     ∙ ap (λ (l : List ℕ). l ++ around marks.ring (marks.front + marks.used) marks.appended file.bytes) first

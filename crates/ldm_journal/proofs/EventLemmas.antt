@@ -9,7 +9,7 @@ use Rattle.ldm_journal.specs.declared.append.AppendEnd.TheVariants as append
 use Rattle.ldm_journal.specs.declared.commit.CommitEnd.TheVariants as commit
 use Rattle.ldm_journal.specs.declared.reader.Reader.{Reader}
 use Rattle.ldm_journal.specs.Records.{Kept, size_of}
-use Rattle.ldm_journal.specs.Format.{Holds, front_at, head_of, used_at, selected}
+use Rattle.ldm_journal.specs.Format.{Holds, front_at, place_of, used_at, selected}
 use Rattle.ldm_journal.specs.Standing.{Stands}
 use Rattle.ldm_journal.specs.Appending.{Appends}
 use Rattle.ldm_journal.specs.Committing.{Commits, HoldsEither, kept_after}
@@ -25,7 +25,7 @@ use Rattle.ldm_journal.proofs.RunLemmas.{leaves_a_note, leaves_a_part}
 committed_bytes : (marks : Marks) (kept appended : List Kept) (file : FileRecord) → IsConsistent file → Stands marks kept appended file → size_of kept ≡ marks.used
 committed_bytes marks kept appended file consistent stands =
     let keeps = stands.crash file.bytes consistent.reads in
-    let head = head_of (selected file.bytes) file.bytes in
+    let head = place_of (selected file.bytes) in
     ap length (sym keeps.holds.records) ∙ length-around marks.ring (front_at head file.bytes) (used_at head file.bytes) file.bytes ∙ keeps.used
 
 appended_bytes : (marks : Marks) (kept appended : List Kept) (file : FileRecord) → Stands marks kept appended file → size_of appended ≡ marks.appended

@@ -1,60 +1,24 @@
 -- What a file keeps, after other bytes of it were written.
-use Rattle.std.proofs.Common.{◌≡◌, ◌⊎◌, inl, inr, ⊎_elim, ℕ, ◌+◌, ◌-◌, ◌%◌, ◌<◌, ◌≤◌, max, Bool, true, false, cond, List, length, get_or, refl, sym, ◌∙◌, ap, subst, arith}
-use Rattle.std.specs.Prelude.{nat_le, count_ones, bytes_eq}
+use Rattle.std.proofs.Common.{◌≡◌, ◌⊎◌, inl, inr, ⊎_elim, ℕ, ◌+◌, ◌-◌, ◌%◌, ◌==◌, ◌<◌, ◌≤◌, max, Bool, true, false, List, length, get_or, sym, ◌∙◌, ap, subst, arith}
 use Rattle.std.specs.Int.{w64, from_be_bytes}
-use Rattle.md5.specs.Md5.{md5}
 use Rattle.std.proofs.lemmas.Bool.{cases_lt}
 use Rattle.std.proofs.Math.Nat.{mod-eq_of_lt, mod-lt}
 use Rattle.ldm_disk.specs.Model.{Torn}
-use Rattle.ldm_journal.specs.declared.places.TheConstants.{SELECT, RING, NOTE, HEAD, SUM, COPY}
+use Rattle.ldm_journal.specs.declared.places.TheConstants.{SELECT, RING, NOTE}
 use Rattle.ldm_journal.specs.declared.marks.Marks.{Marks}
 use Rattle.ldm_journal.specs.Records.{Kept, AreRising}
-use Rattle.ldm_journal.specs.Format.{HoldsBy, number_at, selected, said_at, sum_at, is_whole, place_of, head_of, front_at, used_at, next_at, note_at, around}
+use Rattle.ldm_journal.specs.Format.{HoldsBy, number_at, selected, place_of, front_at, used_at, next_at, note_at, around}
 use Rattle.ldm_journal.specs.Standing.{Keeps}
 use Rattle.ldm_journal.specs.Sound.{IsSound}
 use Rattle.ldm_journal.proofs.Around.{around_same, between_same, take_same, mod_round}
 
 -- a file has the bytes of another that what is kept by a head stands on
-pub record Agrees (odd : Bool) (ring : ℕ) (before after : List ℕ) : Type 0 where
+pub record Agrees (from ring : ℕ) (before after : List ℕ) : Type 0 where
   pub long : length after ≡ length before
   pub opening : (q : ℕ) → q < 24 → get_or after q 0 ≡ get_or before q 0
-  pub head : (q : ℕ) → place_of odd ≤ q → q < place_of odd + COPY + HEAD + SUM → get_or after q 0 ≡ get_or before q 0
-  pub records : (i : ℕ) → i < used_at (head_of odd before) before
-      → get_or after (RING + (front_at (head_of odd before) before + i) % ring) 0 ≡ get_or before (RING + (front_at (head_of odd before) before + i) % ring) 0
-
--- where a head is read, by whether its sum holds
-pub head_is : (odd : Bool) (file : List ℕ) → head_of odd file ≡ cond (is_whole (place_of odd) file) (place_of odd) (place_of odd + COPY)
-unfolding head_of
-head_is odd file = refl
-
-pub head_first : (odd : Bool) (file : List ℕ) → is_whole (place_of odd) file ≡ true → head_of odd file ≡ place_of odd
-head_first odd file whole = head_is odd file ∙ ap (λ (w : Bool). cond w (place_of odd) (place_of odd + COPY)) whole
-
-one_of : (w : Bool) (a : ℕ) → (a ≤ cond w a (a + COPY)) × (cond w a (a + COPY) ≤ a + COPY)
-one_of true a = (omega arith, omega arith)
-one_of false a = (omega arith, omega arith)
-
--- it stands in its block
-pub head_in_block : (odd : Bool) (file : List ℕ) → (place_of odd ≤ head_of odd file) × (head_of odd file ≤ place_of odd + COPY)
-head_in_block odd file =
-    let is = head_is odd file in
-    let one = one_of (is_whole (place_of odd) file) (place_of odd) in
-    (omega (arith, is, one.0), omega (arith, is, one.1))
-
-pub whole_same : (head : ℕ) (before after : List ℕ) → length after ≡ length before
-    → ((q : ℕ) → head ≤ q → q < head + HEAD + SUM → get_or after q 0 ≡ get_or before q 0) → is_whole head after ≡ is_whole head before
-unfolding is_whole
-whole_same head before after long same =
-    ap (λ (l : List ℕ). bytes_eq l (md5 (said_at head after)))
-    (between_same (head + HEAD) (head + HEAD + SUM) before after long (λ q from to. same q (omega (arith, from)) to))
-    ∙ ap (λ (l : List ℕ). bytes_eq (sum_at head before) (md5 l)) (between_same head (head + HEAD) before after long (λ q from to. same q from (omega (arith, to))))
-
-pub head_same : (odd : Bool) (before after : List ℕ) → length after ≡ length before
-    → ((q : ℕ) → place_of odd ≤ q → q < place_of odd + HEAD + SUM → get_or after q 0 ≡ get_or before q 0) → head_of odd after ≡ head_of odd before
-head_same odd before after long same =
-    head_is odd after
-    ∙ ap (λ (w : Bool). cond w (place_of odd) (place_of odd + COPY)) (whole_same (place_of odd) before after long same)
-    ∙ sym (head_is odd before)
+  pub head : (q : ℕ) → from ≤ q → q < from + 24 + NOTE → get_or after q 0 ≡ get_or before q 0
+  pub records : (i : ℕ) → i < used_at from before
+      → get_or after (RING + (front_at from before + i) % ring) 0 ≡ get_or before (RING + (front_at from before + i) % ring) 0
 
 pub number_same : (place : ℕ) (before after : List ℕ) → length after ≡ length before
     → ((q : ℕ) → place ≤ q → q < place + 8 → get_or after q 0 ≡ get_or before q 0) → number_at place after ≡ number_at place before
@@ -63,7 +27,7 @@ number_same place before after long same = ap (λ (l : List ℕ). from_be_bytes 
 
 pub selected_same : (before after : List ℕ) → get_or after SELECT 0 ≡ get_or before SELECT 0 → selected after ≡ selected before
 unfolding selected
-selected_same before after same = ap (λ (byte : ℕ). nat_le 4 (count_ones byte)) same
+selected_same before after same = ap (λ (byte : ℕ). byte % 2 == 1) same
 
 -- the three numbers of a head, and its note
 pub record SameHead (head : ℕ) (before after : List ℕ) : Type 0 where
@@ -81,28 +45,11 @@ same_head head before after long same = record {
   note = between_same (head + 24) (head + 24 + NOTE) before after long (λ q from to. same q (omega (arith, from)) to);
 }
 
--- the bytes of a head that is read stay where its block does
-in_block : (odd : Bool) (ring : ℕ) (before after : List ℕ) → Agrees odd ring before after → (q : ℕ) → head_of odd before ≤ q → q < head_of odd before + HEAD + SUM
-    → get_or after q 0 ≡ get_or before q 0
-in_block odd ring before after agrees q from to =
-    let block = head_in_block odd before in
-    agrees.head q (omega (arith, from, block.0)) (omega (arith, to, block.1))
-
-pub agreed_head : (odd : Bool) (ring : ℕ) (before after : List ℕ) → Agrees odd ring before after → head_of odd after ≡ head_of odd before
-agreed_head odd ring before after agrees = head_same odd before after agrees.long (λ q from to. agrees.head q from (omega (arith, to)))
-
-pub agreed_numbers : (odd : Bool) (ring : ℕ) (before after : List ℕ) → Agrees odd ring before after → SameHead (head_of odd before) before after
-agreed_numbers odd ring before after agrees =
-    same_head (head_of odd before) before after agrees.long (λ q from to. in_block odd ring before after agrees q from (omega (arith, to)))
-
-holds_there : (odd : Bool) (ring : ℕ) (kept : List Kept) (note before after : List ℕ) → Agrees odd ring before after → HoldsBy (head_of odd before) ring kept note before
-    → HoldsBy (head_of odd before) ring kept note after
-holds_there odd ring kept note before after agrees h =
-    let head = head_of odd before in
-    let same = agreed_numbers odd ring before after agrees in
+pub holds_by : (head ring : ℕ) (kept : List Kept) (note before after : List ℕ) → Agrees head ring before after → HoldsBy head ring kept note before → HoldsBy head ring kept note after
+holds_by head ring kept note before after agrees h =
+    let same = same_head head before after agrees.long agrees.head in
     record {
       opened = take_same 24 before after agrees.long agrees.opening ∙ h.opened;
-      whole = whole_same head before after agrees.long (in_block odd ring before after agrees) ∙ h.whole;
       long = agrees.long ∙ h.long;
       front = omega (arith, same.front, h.front);
       used = omega (arith, same.used, h.used);
@@ -113,53 +60,38 @@ holds_there odd ring kept note before after agrees h =
       noted = same.note ∙ h.noted;
     }
 
-pub holds_by : (odd : Bool) (ring : ℕ) (kept : List Kept) (note before after : List ℕ) → Agrees odd ring before after → HoldsBy (head_of odd before) ring kept note before
-    → HoldsBy (head_of odd after) ring kept note after
-holds_by odd ring kept note before after agrees h =
-    subst (λ (head : ℕ). HoldsBy head ring kept note after) (sym (agreed_head odd ring before after agrees)) (holds_there odd ring kept note before after agrees h)
-
 -- what is kept, by the marks alone
 pub record KeepsBy (marks : Marks) (kept : List Kept) (file : List ℕ) : Type 0 where
-  pub holds : HoldsBy (head_of marks.odd file) marks.ring kept marks.note file
-  pub front : front_at (head_of marks.odd file) file ≡ marks.front
-  pub used : used_at (head_of marks.odd file) file ≡ marks.used
-
--- by where the head is read
-pub keeps_at : (marks : Marks) (kept : List Kept) (file : List ℕ) (head : ℕ) → head_of marks.odd file ≡ head → HoldsBy head marks.ring kept marks.note file
-    → front_at head file ≡ marks.front → used_at head file ≡ marks.used → KeepsBy marks kept file
-keeps_at marks kept file head is holds front used = record {
-  holds = subst (λ (h : ℕ). HoldsBy h marks.ring kept marks.note file) (sym is) holds;
-  front = ap (λ (h : ℕ). front_at h file) is ∙ front;
-  used = ap (λ (h : ℕ). used_at h file) is ∙ used;
-}
+  pub holds : HoldsBy (place_of marks.odd) marks.ring kept marks.note file
+  pub front : front_at (place_of marks.odd) file ≡ marks.front
+  pub used : used_at (place_of marks.odd) file ≡ marks.used
 
 pub by_marks : (marks : Marks) (kept : List Kept) (file : List ℕ) → Keeps marks kept file → KeepsBy marks kept file
 by_marks marks kept file k = record {
-  holds = subst (λ (o : Bool). HoldsBy (head_of o file) marks.ring kept marks.note file) k.odd k.holds;
-  front = subst (λ (o : Bool). front_at (head_of o file) file ≡ marks.front) k.odd k.front;
-  used = subst (λ (o : Bool). used_at (head_of o file) file ≡ marks.used) k.odd k.used;
+  holds = subst (λ (o : Bool). HoldsBy (place_of o) marks.ring kept marks.note file) k.odd k.holds;
+  front = subst (λ (o : Bool). front_at (place_of o) file ≡ marks.front) k.odd k.front;
+  used = subst (λ (o : Bool). used_at (place_of o) file ≡ marks.used) k.odd k.used;
 }
 
 pub from_marks : (marks : Marks) (kept : List Kept) (file : List ℕ) → selected file ≡ marks.odd → KeepsBy marks kept file → Keeps marks kept file
 from_marks marks kept file odd k = record {
-  holds = subst (λ (o : Bool). HoldsBy (head_of o file) marks.ring kept marks.note file) (sym odd) k.holds;
+  holds = subst (λ (o : Bool). HoldsBy (place_of o) marks.ring kept marks.note file) (sym odd) k.holds;
   odd = odd;
-  front = subst (λ (o : Bool). front_at (head_of o file) file ≡ marks.front) (sym odd) k.front;
-  used = subst (λ (o : Bool). used_at (head_of o file) file ≡ marks.used) (sym odd) k.used;
+  front = subst (λ (o : Bool). front_at (place_of o) file ≡ marks.front) (sym odd) k.front;
+  used = subst (λ (o : Bool). used_at (place_of o) file ≡ marks.used) (sym odd) k.used;
 }
 
-pub keeps_by : (marks : Marks) (kept : List Kept) (before after : List ℕ) → Agrees marks.odd marks.ring before after → KeepsBy marks kept before → KeepsBy marks kept after
+pub keeps_by : (marks : Marks) (kept : List Kept) (before after : List ℕ) → Agrees (place_of marks.odd) marks.ring before after → KeepsBy marks kept before → KeepsBy marks kept after
 keeps_by marks kept before after agrees k =
-    let same = agreed_numbers marks.odd marks.ring before after agrees in
-    let head = agreed_head marks.odd marks.ring before after agrees in
+    let same = same_head (place_of marks.odd) before after agrees.long agrees.head in
     record {
-      holds = holds_by marks.odd marks.ring kept marks.note before after agrees k.holds;
-      front = ap (λ (n : ℕ). front_at n after) head ∙ same.front ∙ k.front;
-      used = ap (λ (n : ℕ). used_at n after) head ∙ same.used ∙ k.used;
+      holds = holds_by (place_of marks.odd) marks.ring kept marks.note before after agrees k.holds;
+      front = same.front ∙ k.front;
+      used = same.used ∙ k.used;
     }
 
 -- heads stand in front of the ring
-pub head_within : (odd : Bool) → (24 < place_of odd) × (place_of odd + COPY + HEAD + SUM ≤ RING)
+pub head_within : (odd : Bool) → (24 < place_of odd) × (place_of odd + 24 + NOTE ≤ RING)
 head_within false = (omega arith, omega arith)
 head_within true = (omega arith, omega arith)
 
@@ -204,7 +136,7 @@ torn_keeps marks kept n start end before after sound fits ends at to torn keeps 
     λ q less. (torn_beside start end before after q within torn (inl (omega (arith, less, at)))).1 (omega (arith, less, whole)) in
     let head = head_within marks.odd in
     let sum : marks.front + marks.used + marks.appended ≡ marks.front + (marks.used + marks.appended) = omega arith in
-    let agrees : Agrees marks.odd marks.ring before after = record {
+    let agrees : Agrees (place_of marks.odd) marks.ring before after = record {
       long = (torn_beside start end before after 0 within torn (inl (omega (arith, at)))).0;
       opening = λ q less. low q (omega (arith, less));
       head = λ q from less. low q (omega (arith, less, head.1));

@@ -5,7 +5,6 @@ pub mod PushLemmas
 pub mod RecordLemmas
 pub mod AppendLemmas
 pub mod CommitLemmas
-pub mod HeadLemmas
 pub mod TurnLemmas
 pub mod FillLemmas
 pub mod ReadLemmas
@@ -19,4 +18,3 @@ pub mod MakeLemmas
 pub mod NextLemmas
 pub mod OpenWhole
 pub mod EventLemmas
-pub mod DamageLemmas

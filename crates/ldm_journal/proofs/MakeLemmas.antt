@@ -1,8 +1,10 @@
 -- Making a journal in an empty file.
-use Rattle.std.proofs.Common.{◌≡◌, inl, inr, ⊎_elim, ℕ, ◌+◌, ◌-◌, ◌<◌, ◌≤◌, min, max, true, false, List, [], ◌∷◌, ◌++◌, length, take, drop, replicate, get_or, refl, sym, ◌∙◌, ap, subst, lit<, arith}
-use borrow.Rule.Slice.PartMut.{put_mid}
-use Rattle.std.specs.Prelude.{Result, Ok, Err, nat_le, count_ones}
-use Rattle.std.proofs.lemmas.List.{append-nil, length-append, length-take, length-replicate, drop-drop, take-take, take_at, get_or-append_right, get_or-replicate, get_or-take, ext_get_or, drop_all}
+use Rattle.std.proofs.Common.{◌≡◌, inl, inr, ⊎_elim, ℕ, ◌+◌, ◌-◌, ◌%◌, ◌==◌, ◌<◌, ◌≤◌, min, max, true, false, List, [], ◌∷◌, ◌++◌, length, take, replicate, get_or, refl, sym, ◌∙◌, ap, subst, arith}
+use Rattle.std.specs.Prelude.{Result, Ok, Err}
+use Rattle.std.specs.Int.{w64, from_be_bytes}
+use Rattle.std.specs.List.{between}
+use Rattle.std.proofs.lemmas.List.Edits.{get_or-between}
+use Rattle.std.proofs.lemmas.List.{append-nil, length-append, length-take, length-replicate, take-take, take_at, get_or-append_right, get_or-replicate, get_or-take, ext_get_or, drop_all}
 use Rattle.ldm_outside.specs.declared.fault.Failed.{Failed}
 use Rattle.ldm_disk.specs.Told.{FileRecord, IsConsistent, IsSettled}
 use Rattle.ldm_disk.specs.Model.{Step, IsStep, Torn, Written, PartlyWritten, Cut, written_at, cut_to, end_of_piece}
@@ -10,65 +12,53 @@ use Rattle.ldm_disk.specs.Moments.{Goes, LeavesOnly}
 use Rattle.ldm_disk.specs.Calls.{WritesFile, CutsFile, SyncsFile}
 use Rattle.ldm_disk.proofs.CrashLemmas.{started, goes_on, joined, weaker, follows_settled, stays_keeps, settled_leaves}
 use Rattle.ldm_journal.specs.declared.places.TheConstants.{SELECT, HEAD_A, RING, NOTE}
-use Rattle.ldm_journal.specs.Committing.{head_bytes_of}
-use Rattle.ldm_journal.specs.Format.{opening, number_at, selected, is_whole, place_of, head_of, front_at, used_at, note_at, no_note, zeros, around}
+use Rattle.ldm_journal.specs.Format.{opening, number_at, selected, front_at, used_at, note_at, no_note, zeros, around}
 use Rattle.ldm_journal.specs.Standing.{Keeps}
 use Rattle.ldm_journal.specs.Making.{first_marks, first_front, LeftOfMaking, Lays, Widens, Makes}
-use Rattle.ldm_journal.proofs.Around.{get_or-written_other, length-written, take_same, written_is}
-use Rattle.ldm_journal.proofs.CommitLemmas.{length-head_bytes, length-zeros}
-use Rattle.ldm_journal.proofs.HeadLemmas.{first_counts, front_written, note_written, used_written, whole_written}
-use Rattle.ldm_journal.proofs.KeepLemmas.{from_marks, keeps_at}
-use Rattle.ldm_journal.proofs.OpenLemmas.{between_in_front, head_in_front, number_in_front, selected_in_front, whole_in_front}
-use Rattle.ldm_journal.proofs.TurnLemmas.{selects}
+use Rattle.ldm_journal.proofs.Around.{length-between'}
+use Rattle.ldm_journal.proofs.KeepLemmas.{from_marks}
+use Rattle.ldm_journal.proofs.OpenLemmas.{between_in_front, number_in_front, selected_in_front}
+
+pub length-zeros : (n : ℕ) → length (zeros n) ≡ n
+unfolding zeros
+length-zeros n = length-replicate {A = ℕ} n 0
 
 get_or-zeros : (n i : ℕ) → i < n → get_or (zeros n) i 0 ≡ 0
 unfolding zeros
 get_or-zeros n i less = get_or-replicate n i 0 0 less
 
--- the front before its head is there
-abbrev blank : ℕ → List ℕ
-blank ring = opening ring ++ zeros 12264
+number_of_zeros : from_be_bytes w64 (zeros 8) ≡ 0
+unfolding zeros
+number_of_zeros = refl
 
-length-blank : (ring : ℕ) → length (blank ring) ≡ RING
-length-blank ring = let count : length (opening ring) ≡ 24 = refl in omega (arith, length-append (opening ring) (zeros 12264), length-zeros 12264, count)
-
-noted : (ring : ℕ) → length (first_marks ring).note ≡ NOTE
-noted ring = length-zeros NOTE
-
-head_fits : (ring : ℕ) → place_of false + length (head_bytes_of (first_marks ring)) ≤ length (blank ring)
-head_fits ring = omega (arith, length-head_bytes (first_marks ring) (noted ring), length-blank ring)
-
-pub length-front : (ring : ℕ) → length (first_front ring) ≡ RING
-length-front ring = length-written HEAD_A (head_bytes_of (first_marks ring)) (blank ring) (head_fits ring) ∙ length-blank ring
-
--- the head is put into the front
-pub put_front : (ring : ℕ) → put_mid HEAD_A 3624 (blank ring) (head_bytes_of (first_marks ring)) ≡ first_front ring
-put_front ring =
-    let piece = head_bytes_of (first_marks ring) in
-    let long : 3624 ≡ length piece = sym (length-head_bytes (first_marks ring) (noted ring)) in
-    ap (λ (l : List ℕ). take HEAD_A (blank ring) ++ (piece ++ l)) (drop-drop 3624 HEAD_A (blank ring))
-    ∙ ap (λ (n : ℕ). take HEAD_A (blank ring) ++ (piece ++ drop (HEAD_A + n) (blank ring))) long
-    ∙ sym (written_is HEAD_A piece (blank ring) (head_fits ring))
-
--- bytes in front of the head
-front_of_head : (ring q : ℕ) → q < HEAD_A → get_or (first_front ring) q 0 ≡ get_or (blank ring) q 0
-front_of_head ring q less = get_or-written_other HEAD_A (head_bytes_of (first_marks ring)) (blank ring) q (head_fits ring) (inl less)
+length-front : (ring : ℕ) → length (first_front ring) ≡ RING
+length-front ring = let count : length (opening ring) ≡ 24 = refl in omega (arith, length-append (opening ring) (zeros 12264), length-zeros 12264, count)
 
 front_begins : (ring : ℕ) → take 24 (first_front ring) ≡ opening ring
-front_begins ring =
-    take_same 24 (blank ring) (first_front ring) (length-front ring ∙ sym (length-blank ring)) (λ q less. front_of_head ring q (omega (arith, less)))
-    ∙ take_at (opening ring) (zeros 12264) 24 refl
+front_begins ring = take_at (opening ring) (zeros 12264) 24 refl
 
--- the byte that selects
-zero_there : (ring : ℕ) → get_or (first_front ring) SELECT 0 ≡ 0
-zero_there ring =
-    front_of_head ring SELECT (omega arith)
-    ∙ get_or-append_right (opening ring) (zeros 12264) 24 SELECT 0 refl (omega arith)
-    ∙ get_or-zeros 12264 (SELECT - 24) (omega arith)
+-- bytes behind the opening
+zero_behind : (ring q : ℕ) → 24 ≤ q → q < RING → get_or (first_front ring) q 0 ≡ 0
+zero_behind ring q from to = get_or-append_right (opening ring) (zeros 12264) 24 q 0 refl from ∙ get_or-zeros 12264 (q - 24) (omega (arith, from, to))
+
+zeros_behind : (ring from n : ℕ) → 24 ≤ from → from + n ≤ RING → between from (from + n) (first_front ring) ≡ zeros n
+zeros_behind ring from n low high =
+    let la = length-between' from (from + n) (first_front ring) in
+    let lb = length-zeros n in
+    ext_get_or 0 (between from (from + n) (first_front ring)) (zeros n) (omega (arith, la, lb, length-front ring, high))
+    (λ k less.
+    let lt : k < n = omega (arith, less, la) in
+    get_or-between (first_front ring) from (from + n) k 0 (omega (arith, lt))
+    ∙ zero_behind ring (from + k) (omega (arith, low)) (omega (arith, lt, high))
+    ∙ sym (get_or-zeros n k lt))
 
 front_even : (ring : ℕ) → selected (first_front ring) ≡ false
 unfolding selected
-front_even ring = ap (λ (byte : ℕ). nat_le 4 (count_ones byte)) (zero_there ring) ∙ selects false
+front_even ring = ap (λ (byte : ℕ). byte % 2 == 1) (zero_behind ring SELECT (omega arith) (omega arith))
+
+front_number : (ring place : ℕ) → 24 ≤ place → place + 8 ≤ RING → number_at place (first_front ring) ≡ 0
+unfolding number_at
+front_number ring place low high = ap (λ (l : List ℕ). from_be_bytes w64 l) (zeros_behind ring place 8 low high) ∙ number_of_zeros
 
 around_none : (ring from : ℕ) (file : List ℕ) → around ring from 0 file ≡ []
 unfolding around
@@ -82,33 +72,30 @@ keeps_nothing ring file some long same =
     let front : take RING file ≡ first_front ring =
     ext_get_or 0 (take RING file) (first_front ring) (count ∙ sym (length-front ring))
     (λ i within. let lt : i < RING = omega (arith, within, count) in get_or-take RING file i 0 lt ∙ same i lt) in
-    let m = first_marks ring in
-    let ok = noted ring in
-    let fits = head_fits ring in
-    let head : head_of false file ≡ HEAD_A =
-    sym (head_in_front false file) ∙ ap (λ (l : List ℕ). head_of false l) front ∙ first_counts false m ok (blank ring) fits in
-    let number : (place : ℕ) → place + 8 ≤ RING → number_at place file ≡ number_at place (first_front ring) =
-    λ place high. sym (number_in_front place file high) ∙ ap (λ (l : List ℕ). number_at place l) front in
-    let f : front_at HEAD_A file ≡ 0 = number HEAD_A (omega arith) ∙ front_written false m ok (blank ring) fits (lit< tt) in
-    let u : used_at HEAD_A file ≡ 0 = number (HEAD_A + 8) (omega arith) ∙ used_written false m ok (blank ring) fits (lit< tt) in
-    let n : note_at HEAD_A file ≡ no_note =
-    sym (between_in_front (HEAD_A + 24) (HEAD_A + 24 + NOTE) file (omega arith)) ∙ ap (λ (l : List ℕ). note_at HEAD_A l) front
-    ∙ note_written false m ok (blank ring) fits in
+    let head = HEAD_A in
+    let number : (place : ℕ) → 24 ≤ place → place + 8 ≤ RING → number_at place file ≡ 0 =
+    λ place low high. sym (number_in_front place file high) ∙ ap (λ (l : List ℕ). number_at place l) front ∙ front_number ring place low high in
+    let f : front_at head file ≡ 0 = number head (omega arith) (omega arith) in
+    let u : used_at head file ≡ 0 = number (head + 8) (omega arith) (omega arith) in
+    let n : note_at head file ≡ no_note =
+    sym (between_in_front (head + 24) (head + 24 + NOTE) file (omega arith)) ∙ ap (λ (l : List ℕ). note_at head l) front
+    ∙ zeros_behind ring (head + 24) NOTE (omega arith) (omega arith) in
     let even : selected file ≡ false = sym (selected_in_front file) ∙ ap selected front ∙ front_even ring in
-    from_marks m [] file even
-    (keeps_at m [] file HEAD_A head
+    from_marks (first_marks ring) [] file even
     (record {
-      opened = sym (take-take 24 RING file (omega arith)) ∙ ap (λ (l : List ℕ). take 24 l) front ∙ front_begins ring;
-      whole = sym (whole_in_front HEAD_A file (omega arith)) ∙ ap (λ (l : List ℕ). is_whole HEAD_A l) front ∙ whole_written false m ok (blank ring) fits;
-      long = long;
-      front = omega (arith, f, some);
-      used = omega (arith, u);
-      records = ap (λ (n : ℕ). around ring (front_at HEAD_A file) n file) u ∙ around_none ring (front_at HEAD_A file) file;
-      lawful = tt;
-      rising = omega arith;
-      noted = n;
+      holds = record {
+        opened = sym (take-take 24 RING file (omega arith)) ∙ ap (λ (l : List ℕ). take 24 l) front ∙ front_begins ring;
+        long = long;
+        front = omega (arith, f, some);
+        used = omega (arith, u);
+        records = ap (λ (n : ℕ). around ring (front_at head file) n file) u ∙ around_none ring (front_at head file) file;
+        lawful = tt;
+        rising = omega arith;
+        noted = n;
+      };
+      front = f;
+      used = u;
     })
-    f u)
 
 end_le : (at : ℕ) (piece : List ℕ) → end_of_piece at piece ≤ at + length piece
 end_le at [] = omega arith

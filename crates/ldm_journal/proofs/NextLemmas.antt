@@ -11,7 +11,7 @@ use Rattle.ldm_journal.specs.declared.reader.Reader.{Reader}
 use Rattle.ldm_journal.specs.declared.fault.JournalFault.{JournalFault}
 use Rattle.ldm_journal.specs.declared.fault.JournalFault.TheVariants.{NotAJournal, OtherRing, OtherLength, BadHead, BadRecord, DiskFault, OutOfMemory}
 use Rattle.ldm_journal.specs.Records.{Kept, record_bytes, records_of, size_of, IsLawful}
-use Rattle.ldm_journal.specs.Format.{around, front_at, head_of}
+use Rattle.ldm_journal.specs.Format.{around, front_at, place_of}
 use Rattle.ldm_journal.specs.Standing.{Stands}
 use Rattle.ldm_journal.specs.Reading.{HasNoRecord, IsBefore, Reads, TakesRecord, kept_of}
 use Rattle.ldm_journal.proofs.Around.{drop-around, length-around}
@@ -48,7 +48,7 @@ module _ (marks : Marks) (kept appended : List Kept) (i : ℕ) (file : FileRecor
   window : around marks.ring marks.front marks.used file.bytes ≡ records_of kept
   window =
       ap (λ (n : ℕ). around marks.ring n marks.used file.bytes) (sym keeps.front)
-      ∙ ap (λ (n : ℕ). around marks.ring (front_at (head_of marks.odd file.bytes) file.bytes) n file.bytes) (sym keeps.used)
+      ∙ ap (λ (n : ℕ). around marks.ring (front_at (place_of marks.odd) file.bytes) n file.bytes) (sym keeps.used)
       ∙ keeps.holds.records
 
   total : size_of (take i kept) + size_of (drop i kept) ≡ marks.used

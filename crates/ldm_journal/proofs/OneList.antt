@@ -8,7 +8,7 @@ use Rattle.md5.specs.Md5.{md5}
 use Rattle.ldm_types.specs.Info.{Metadata, metadata_len}
 use Rattle.ldm_xdr.proofs.Whole.{spelled_once}
 use Rattle.ldm_journal.specs.Records.{Kept, eight, counted, record_bytes, records_of, IsLawful}
-use Rattle.ldm_journal.specs.Format.{Holds, head_of, selected, front_at, used_at}
+use Rattle.ldm_journal.specs.Format.{Holds, place_of, selected, front_at, used_at}
 use Rattle.ldm_journal.specs.declared.places.TheConstants.{LARGEST_RING}
 use Rattle.ldm_journal.proofs.Around.{length-around}
 use Rattle.ldm_journal.proofs.RecordLemmas.{length-record, length-counted, length-eight, record_counted}
@@ -97,6 +97,6 @@ one_list (x ∷ xs) (y ∷ ys) lx ly short is =
 pub one_kept : (ring : ℕ) (xs ys : List Kept) (first second file : List ℕ) → ring ≤ LARGEST_RING → Holds ring xs first file → Holds ring ys second file
     → (xs ≡ ys) × (first ≡ second)
 one_kept ring xs ys first second file sized a b =
-    let len : length (records_of xs) ≡ used_at (head_of (selected file) file) file =
-    ap length (sym a.records) ∙ length-around ring (front_at (head_of (selected file) file) file) (used_at (head_of (selected file) file) file) file in
+    let len : length (records_of xs) ≡ used_at (place_of (selected file)) file =
+    ap length (sym a.records) ∙ length-around ring (front_at (place_of (selected file)) file) (used_at (place_of (selected file)) file) file in
     (one_list xs ys a.lawful b.lawful (omega (arith, len, a.used, sized)) (sym a.records ∙ b.records), sym a.noted ∙ b.noted)

@@ -1,26 +1,24 @@
 -- Opening a journal: what stands in front of the ring, and the records, one after another.
-use Rattle.std.proofs.Common.{◌≡◌, ◌≢◌, ◌⊎◌, ⊎_elim, ℕ, ◌+◌, ◌-◌, ◌^◌, ◌<◌, ◌≤◌, Bool, true, false, cond, List, [], ◌∷◌, ◌++◌, length, take, drop, refl, sym, ◌∙◌, ap, subst, arith}
-use Rattle.std.specs.Prelude.{◌↔◌, IfSome, IsTrue, Option, Some, None, Ok, Err, nat_le, count_ones, bytes_eq}
-use Rattle.std.proofs.lemmas.Slice.Eq.{bytes_eq-Decides}
-use Rattle.md5.specs.Md5.{md5}
+use Rattle.std.proofs.Common.{◌≡◌, ◌≢◌, ◌⊎◌, ⊎_elim, ℕ, ◌+◌, ◌-◌, ◌%◌, ◌^◌, ◌==◌, ◌<◌, ◌≤◌, Bool, List, [], ◌∷◌, ◌++◌, length, take, drop, refl, sym, ◌∙◌, ap, subst, arith}
+use Rattle.std.specs.Prelude.{IfSome, Option, Some, None, Ok, Err}
 use Rattle.std.specs.Int.{w64, from_be_bytes}
 use Rattle.std.specs.List.{AllByRecursion, between}
 use Rattle.std.proofs.lemmas.List.{append-nil, append_assoc, length-append, take-take, get_or-take}
 use Rattle.std.proofs.lemmas.Slice.{between_is, between_from_start}
-use Rattle.ldm_journal.specs.declared.places.TheConstants.{SELECT, RING, LARGEST_RING, NOTE, HEAD, SUM, COPY}
+use Rattle.ldm_journal.specs.declared.places.TheConstants.{SELECT, RING, LARGEST_RING, NOTE}
 use Rattle.ldm_journal.specs.declared.marks.Marks.{Marks}
 use Rattle.ldm_journal.specs.declared.entry.Entry.{Entry}
 use Rattle.ldm_journal.specs.declared.fault.JournalFault.{JournalFault}
 use Rattle.ldm_journal.specs.declared.fault.JournalFault.TheVariants.{NotAJournal, OtherRing, OtherLength, BadHead, BadRecord, DiskFault, OutOfMemory}
 use Rattle.ldm_journal.specs.Records.{Kept, record_bytes, records_of, IsLawful, AreRising}
-use Rattle.ldm_journal.specs.Format.{Holds, opening, number_at, selected, said_at, sum_at, is_whole, place_of, head_of, front_at, used_at, note_at, around}
+use Rattle.ldm_journal.specs.Format.{Holds, opening, number_at, selected, place_of, front_at, used_at, note_at, around}
 use Rattle.ldm_journal.specs.Reading.{FaultRose, Fills, ReadsRecord, kept_of}
 use Rattle.ldm_journal.specs.Opening.{AreRecords, HasMarks, HasNumbers, IsOfFile, JudgesFile, JudgesFront, JudgesRecords}
 use Rattle.ldm_journal.specs.Sound.{IsSound}
 use Rattle.ldm_disk.specs.Told.{DiskRecord, FileRecord}
 use Rattle.ldm_disk.specs.Calls.{FileChanges, KeepsFile}
 use Rattle.ldm_journal.proofs.Around.{around-add, length-around}
-use Rattle.ldm_journal.proofs.KeepLemmas.{head_in_block, head_is, head_within}
+use Rattle.ldm_journal.proofs.KeepLemmas.{head_within}
 use Rattle.ldm_journal.proofs.RecordLemmas.{records-push, lawful_both}
 use Rattle.ldm_journal.proofs.ReadLemmas.{least_record}
 use Rattle.ldm_journal.proofs.OneList.{one_record, small}
@@ -36,99 +34,32 @@ number_in_front place file within = ap (λ (l : List ℕ). from_be_bytes w64 l) 
 
 pub selected_in_front : (file : List ℕ) → selected (take RING file) ≡ selected file
 unfolding selected
-selected_in_front file = ap (λ (byte : ℕ). nat_le 4 (count_ones byte)) (get_or-take RING file SELECT 0 (omega arith))
-
-pub whole_in_front : (head : ℕ) (file : List ℕ) → head + HEAD + SUM ≤ RING → is_whole head (take RING file) ≡ is_whole head file
-unfolding is_whole
-whole_in_front head file within =
-    ap (λ (l : List ℕ). bytes_eq l (md5 (said_at head (take RING file)))) (between_in_front (head + HEAD) (head + HEAD + SUM) file within)
-    ∙ ap (λ (l : List ℕ). bytes_eq (sum_at head file) (md5 l)) (between_in_front head (head + HEAD) file (omega (arith, within)))
-
-pub head_in_front : (odd : Bool) (file : List ℕ) → head_of odd (take RING file) ≡ head_of odd file
-head_in_front odd file =
-    head_is odd (take RING file)
-    ∙ ap (λ (w : Bool). cond w (place_of odd) (place_of odd + COPY)) (whole_in_front (place_of odd) file (let block = head_within odd in omega (arith, block.1)))
-    ∙ sym (head_is odd file)
-
--- a head that is read ends in front of the ring
-pub head_ends : (odd : Bool) (file : List ℕ) → head_of odd file + HEAD + SUM ≤ RING
-head_ends odd file = let block = head_within odd in let there = head_in_block odd file in omega (arith, block.1, there.1)
-
--- the head that counts is that of the whole file
-pub counts_in_front : (front file : List ℕ) → front ≡ take RING file → head_of (selected front) front ≡ head_of (selected file) file
-counts_in_front front file is =
-    ap (λ (o : Bool). head_of o front) (ap selected is ∙ selected_in_front file)
-    ∙ ap (λ (l : List ℕ). head_of (selected file) l) is
-    ∙ head_in_front (selected file) file
-
-pub whole_so : (front file : List ℕ) → front ≡ take RING file → is_whole (head_of (selected front) front) front ≡ is_whole (head_of (selected file) file) file
-whole_so front file is =
-    ap (λ (h : ℕ). is_whole h front) (counts_in_front front file is)
-    ∙ ap (λ (l : List ℕ). is_whole (head_of (selected file) file) l) is
-    ∙ whole_in_front (head_of (selected file) file) file (head_ends (selected file) file)
-
--- as the code finds it
-same_bool : (a b : Bool) → (a ≡ true → b ≡ true) → (b ≡ true → a ≡ true) → a ≡ b
-same_bool true true one other = refl
-same_bool true false one other = sym (one refl)
-same_bool false true one other = other refl
-same_bool false false one other = refl
-
-pub whole_tells : (r : Bool) (head : ℕ) (file said sum : List ℕ) → said ≡ said_at head file → sum ≡ sum_at head file → (IsTrue r ↔ (sum ≡ md5 said)) → r ≡ is_whole head file
-unfolding is_whole
-whole_tells r head file said sum is_said is_sum tells =
-    let d = bytes_eq-Decides (sum_at head file) (md5 (said_at head file)) in
-    same_bool r (bytes_eq (sum_at head file) (md5 (said_at head file)))
-    (λ held. d.1 (sym is_sum ∙ tells.0 held ∙ ap md5 is_said))
-    (λ equal. tells.1 (is_sum ∙ d.0 equal ∙ sym (ap md5 is_said)))
-
-pub head_there : (odd : Bool) (file : List ℕ) (place : ℕ) (w : Bool) → place ≡ place_of odd → w ≡ is_whole place file → w ≡ true → place ≡ head_of odd file
-head_there odd file place w at is held =
-    at ∙ sym (ap (λ (v : Bool). cond v (place_of odd) (place_of odd + COPY)) (ap (λ (n : ℕ). is_whole n file) (sym at) ∙ sym is ∙ held)) ∙ sym (head_is odd file)
-
-pub head_copy : (odd : Bool) (file : List ℕ) (place : ℕ) (w : Bool) → place ≡ place_of odd → w ≡ is_whole place file → w ≡ false → place + COPY ≡ head_of odd file
-head_copy odd file place w at is torn =
-    ap (λ (n : ℕ). n + COPY) at
-    ∙ sym (ap (λ (v : Bool). cond v (place_of odd) (place_of odd + COPY)) (ap (λ (n : ℕ). is_whole n file) (sym at) ∙ sym is ∙ torn))
-    ∙ sym (head_is odd file)
-
-pub whole_at : (r odd : Bool) (head : ℕ) (front : List ℕ) → odd ≡ selected front → head ≡ head_of odd front → r ≡ is_whole head front
-    → is_whole (head_of (selected front) front) front ≡ r
-whole_at r odd head front is_odd is_head is =
-    ap (λ (o : Bool). is_whole (head_of o front) front) (sym is_odd) ∙ ap (λ (h : ℕ). is_whole h front) (sym is_head) ∙ sym is
-
--- a file of which the sum of that head does not hold is none
-pub not_whole : (ring : ℕ) (front file : List ℕ) → front ≡ take RING file → is_whole (head_of (selected front) front) front ≡ false → (kept : List Kept) (note : List ℕ)
-    → ¬ (Holds ring kept note file)
-not_whole ring front file is torn kept note holds = cc (sym holds.whole ∙ sym (whole_so front file is) ∙ torn)
+selected_in_front file = ap (λ (byte : ℕ). byte % 2 == 1) (get_or-take RING file SELECT 0 (omega arith))
 
 -- what the marks say of the whole file
 pub front_judged : (marks : Marks) (ring : ℕ) (front file : List ℕ) → front ≡ take RING file → take 24 front ≡ opening ring → length file ≡ RING + ring
-    → is_whole (head_of (selected front) front) front ≡ true → HasNumbers marks ring (selected front) front → HasMarks marks ring file
-front_judged marks ring front file is opened long whole numbers =
+    → HasNumbers marks ring (selected front) front → HasMarks marks ring file
+front_judged marks ring front file is opened long numbers =
     let odd : selected front ≡ selected file = ap selected is ∙ selected_in_front file in
-    let head = head_of (selected file) file in
-    let same : head_of (selected front) front ≡ head = counts_in_front front file is in
-    let ends = head_ends (selected file) file in
-    let number : (offset : ℕ) → offset + 8 ≤ 24 → number_at (head_of (selected front) front + offset) front ≡ number_at (head + offset) file =
+    let head = head_within (selected file) in
+    let number : (offset : ℕ) → offset + 8 ≤ 24 → number_at (place_of (selected front) + offset) front ≡ number_at (place_of (selected file) + offset) file =
     λ offset fits.
-    ap (λ (h : ℕ). number_at (h + offset) front) same ∙ ap (λ (l : List ℕ). number_at (head + offset) l) is
-    ∙ number_in_front (head + offset) file (omega (arith, ends, fits)) in
+    ap (λ (o : Bool). number_at (place_of o + offset) front) odd ∙ ap (λ (l : List ℕ). number_at (place_of (selected file) + offset) l) is
+    ∙ number_in_front (place_of (selected file) + offset) file (omega (arith, head.1, fits)) in
     let none : (n : ℕ) → n + 0 ≡ n = λ n. omega arith in
     record {
       opened = sym (take-take 24 RING file (omega arith)) ∙ ap (λ (l : List ℕ). take 24 l) (sym is) ∙ opened;
       long = long;
-      whole = sym (whole_so front file is) ∙ whole;
       ring = numbers.ring;
       odd = sym odd ∙ sym numbers.odd;
-      front = ap (λ (n : ℕ). number_at n file) (sym (none head)) ∙ sym (number 0 (omega arith))
-          ∙ ap (λ (n : ℕ). number_at n front) (none (head_of (selected front) front)) ∙ sym numbers.front;
+      front = ap (λ (n : ℕ). number_at n file) (sym (none (place_of (selected file)))) ∙ sym (number 0 (omega arith))
+          ∙ ap (λ (n : ℕ). number_at n front) (none (place_of (selected front))) ∙ sym numbers.front;
       used = sym (number 8 (omega arith)) ∙ sym numbers.used;
       next = sym (number 16 (omega arith)) ∙ sym numbers.next;
       appended = numbers.appended;
-      note = sym (between_in_front (head + 24) (head + 24 + NOTE) file (omega (arith, ends)))
-          ∙ ap (λ (l : List ℕ). note_at head l) (sym is)
-          ∙ ap (λ (h : ℕ). note_at h front) (sym same)
+      note = sym (between_in_front (place_of (selected file) + 24) (place_of (selected file) + 24 + NOTE) file (omega (arith, head.1)))
+          ∙ ap (λ (l : List ℕ). note_at (place_of (selected file)) l) (sym is)
+          ∙ ap (λ (o : Bool). note_at (place_of o) front) (sym odd)
           ∙ sym numbers.note;
     }
 
@@ -354,7 +285,7 @@ pub file_judged : (marks : Marks) (ring : ℕ) (file : List ℕ) → IsSound mar
 file_judged marks ring file sound has records =
     let kept = records.0 in
     let are = records.1 in
-    let place = head_of (selected file) file in (
+    let place = place_of (selected file) in (
       has.ring,
       has.appended,
       (
@@ -362,7 +293,6 @@ file_judged marks ring file sound has records =
         record {
           holds = record {
             opened = has.opened ∙ ap opening (sym has.ring);
-            whole = has.whole;
             long = has.long ∙ ap (λ (n : ℕ). RING + n) (sym has.ring);
             front = omega (arith, has.front, sound.1);
             used = omega (arith, has.used, sound.2);
@@ -384,7 +314,7 @@ no_list : (marks : Marks) (ring : ℕ) (file : List ℕ) → HasMarks marks ring
     → (length file ≡ RING + marks.ring → (kept : List Kept) → ¬ (AreRecords kept marks.next (around marks.ring marks.front marks.used file)))
     → (kept : List Kept) (note : List ℕ) → ¬ (Holds ring kept note file)
 no_list marks ring file has none kept note holds =
-    let place = head_of (selected file) file in
+    let place = place_of (selected file) in
     none (has.long ∙ ap (λ (n : ℕ). RING + n) (sym has.ring)) kept
     (record {
       records = ap (λ (n : ℕ). around n marks.front marks.used file) has.ring

@@ -1,28 +1,71 @@
 -- A commit as a whole: what is left of the records stands by the other head, which then counts.
-use Rattle.std.proofs.Common.{◌≡◌, ◌⊎◌, inl, inr, ⊎_elim, ℕ, ◌+◌, ◌-◌, ◌%◌, ◌<◌, ◌≤◌, Bool, true, false, not, List, [], ◌∷◌, ◌++◌, length, take, drop, get_or, refl, sym, ◌∙◌, ap, subst, arith}
-use lib.Count.{ones, ones_in}
-use Rattle.std.specs.Prelude.{Result, Ok, Err, nat_le, count_ones}
+use Rattle.std.proofs.Common.{◌≡◌, ◌⊎◌, inl, inr, ⊎_elim, ℕ, ◌+◌, ◌-◌, ◌%◌, ◌==◌, ◌^◌, ◌<◌, ◌≤◌, Bool, true, false, not, List, [], ◌∷◌, ◌++◌, length, take, drop, get_or, refl, sym, ◌∙◌, ap, subst, arith}
+use Rattle.std.specs.Prelude.{Result, Ok, Err}
+use Rattle.std.specs.Int.{w64, from_be_bytes}
+use Rattle.std.specs.List.{between}
 use Rattle.std.proofs.lemmas.Bool.{cases_lt, cases_eq}
-use Rattle.std.proofs.lemmas.List.{append-nil}
+use Rattle.std.proofs.lemmas.List.{append-nil, drop_at, ext_get_or, length-append, take_all}
+use Rattle.std.proofs.lemmas.List.Edits.{get_or-between}
+use Rattle.std.proofs.lemmas.Slice.{between_is}
+use Rattle.std.proofs.lemmas.Nat.{from_be_bytes-to_be_bytes_8}
 use Rattle.std.proofs.Math.Nat.{mod-lt}
 use Rattle.ldm_outside.specs.declared.fault.Failed.{Failed}
 use Rattle.ldm_disk.specs.Told.{FileRecord, IsConsistent, IsSettled}
 use Rattle.ldm_disk.specs.Model.{written_at}
 use Rattle.ldm_disk.specs.Moments.{LeavesOnly}
 use Rattle.ldm_disk.proofs.CrashLemmas.{joined, weaker, settled_leaves, reads}
-use Rattle.ldm_journal.specs.declared.places.TheConstants.{SELECT, RING, NOTE, HEAD, SUM, COPY}
+use Rattle.ldm_journal.specs.declared.places.TheConstants.{SELECT, RING, NOTE}
 use Rattle.ldm_journal.specs.declared.marks.Marks.{Marks}
-use Rattle.ldm_journal.specs.Records.{Kept, records_of, AreRising}
-use Rattle.ldm_journal.specs.Format.{selected, place_of, head_of, front_at, used_at, next_at, note_at, around}
+use Rattle.ldm_journal.specs.Records.{Kept, eight, records_of, AreRising}
+use Rattle.ldm_journal.specs.Format.{number_at, selected, place_of, front_at, used_at, next_at, note_at, around}
 use Rattle.ldm_journal.specs.Standing.{Keeps, Stands}
-use Rattle.ldm_journal.specs.Damage.{IsTwice, counting, head_at}
 use Rattle.ldm_journal.specs.Sound.{IsSound}
 use Rattle.ldm_journal.specs.Committing.{HoldsEither, IsLeft, IsSelecting, Selects, Turns, WritesHead, head_bytes_of, select_byte, turned}
-use Rattle.ldm_journal.proofs.Around.{around_same, around-add, around-mod, between_same, drop-around, get_or-written, get_or-written_other, length-written, take_same}
+use Rattle.ldm_journal.proofs.Around.{around_same, around-add, around-mod, drop-around, length-between', get_or-written, get_or-written_other, length-written, take_same}
 use Rattle.ldm_journal.proofs.CommitLemmas.{length-head_bytes}
-use Rattle.ldm_journal.proofs.HeadLemmas.{first_counts, front_written, next_written, note_written, twice_written, used_written, whole_written}
-use Rattle.ldm_journal.proofs.KeepLemmas.{Agrees, KeepsBy, by_marks, from_marks, keeps_at, keeps_by, head_within}
+use Rattle.ldm_journal.proofs.KeepLemmas.{Agrees, KeepsBy, by_marks, from_marks, keeps_by, head_within}
 use Rattle.ldm_journal.proofs.RecordLemmas.{records-append}
+
+-- some bytes of a piece that was written
+between_written : (at i n : ℕ) (piece bytes : List ℕ) → at + length piece ≤ length bytes → i + n ≤ length piece
+    → between (at + i) (at + i + n) (written_at at piece bytes) ≡ between i (i + n) piece
+between_written at i n piece bytes within fits =
+    let now = written_at at piece bytes in
+    let long = length-written at piece bytes within in
+    let la = length-between' (at + i) (at + i + n) now in
+    let lb = length-between' i (i + n) piece in
+    ext_get_or 0 (between (at + i) (at + i + n) now) (between i (i + n) piece) (omega (arith, la, lb, long, within, fits))
+    (λ k less.
+    let lt : k < n = omega (arith, less, la) in
+    let sum : at + i + k ≡ at + (i + k) = omega arith in
+    get_or-between now (at + i) (at + i + n) k 0 (omega (arith, lt))
+    ∙ ap (λ (m : ℕ). get_or now m 0) sum
+    ∙ get_or-written at piece bytes (i + k) within (omega (arith, lt, fits))
+    ∙ sym (get_or-between piece i (i + n) k 0 (omega (arith, lt))))
+
+number_written : (at i : ℕ) (piece bytes : List ℕ) → at + length piece ≤ length bytes → i + 8 ≤ length piece
+    → number_at (at + i) (written_at at piece bytes) ≡ number_at i piece
+unfolding number_at
+number_written at i piece bytes within fits = ap (λ (l : List ℕ). from_be_bytes w64 l) (between_written at i 8 piece bytes within fits)
+
+-- the three numbers of a head
+first_number : (a b c : ℕ) (note : List ℕ) → a < 2 ^ 64 → number_at 0 (eight a ++ eight b ++ eight c ++ note) ≡ a
+unfolding number_at
+first_number a b c note fits = from_be_bytes-to_be_bytes_8 a fits
+
+second_number : (a b c : ℕ) (note : List ℕ) → b < 2 ^ 64 → number_at 8 (eight a ++ eight b ++ eight c ++ note) ≡ b
+unfolding number_at
+second_number a b c note fits = from_be_bytes-to_be_bytes_8 b fits
+
+third_number : (a b c : ℕ) (note : List ℕ) → c < 2 ^ 64 → number_at 16 (eight a ++ eight b ++ eight c ++ note) ≡ c
+unfolding number_at
+third_number a b c note fits = from_be_bytes-to_be_bytes_8 c fits
+
+-- and its note
+note_behind : (numbers note : List ℕ) (n : ℕ) → length numbers ≡ 24 → length note ≡ n → between 24 (24 + n) (numbers ++ note) ≡ note
+note_behind numbers note n count long =
+    let whole : length (numbers ++ note) ≤ 24 + n = omega (arith, length-append numbers note, count, long) in
+    between_is (numbers ++ note) 24 (24 + n) ∙ ap (λ (l : List ℕ). drop 24 l) (take_all (24 + n) (numbers ++ note) whole) ∙ drop_at numbers note 24 count
 
 around_none : (ring from : ℕ) (file : List ℕ) → around ring from 0 file ≡ []
 unfolding around
@@ -35,14 +78,13 @@ same_or_other false true = inr refl
 same_or_other true false = inr refl
 same_or_other true true = inl refl
 
-pub selects : (odd : Bool) → nat_le 4 (count_ones (select_byte odd)) ≡ odd
-unfolding ones ones_in
+selects : (odd : Bool) → (select_byte odd % 2 == 1) ≡ odd
 selects false = refl
 selects true = refl
 
-selected_is : (file : List ℕ) (byte : ℕ) (odd : Bool) → get_or file SELECT 0 ≡ byte → nat_le 4 (count_ones byte) ≡ odd → selected file ≡ odd
+selected_is : (file : List ℕ) (byte : ℕ) (odd : Bool) → get_or file SELECT 0 ≡ byte → (byte % 2 == 1) ≡ odd → selected file ≡ odd
 unfolding selected
-selected_is file byte odd is parity = ap (λ (b : ℕ). nat_le 4 (count_ones b)) is ∙ parity
+selected_is file byte odd is parity = ap (λ (b : ℕ). b % 2 == 1) is ∙ parity
 
 module _ (before : Marks) (kept appended left : List Kept) (dropped : ℕ) (note : List ℕ) (noted : length note ≡ NOTE) (sound : IsSound before) (le : dropped ≤ before.used + before.appended)
     (is_left : IsLeft dropped before kept appended left) (old : FileRecord) (consistent : IsConsistent old) (stands : Stands before kept appended old) where
@@ -64,7 +106,7 @@ module _ (before : Marks) (kept appended left : List Kept) (dropped : ℕ) (note
       let k = read_by in
       let first : around before.ring before.front before.used old.bytes ≡ records_of kept =
       ap (λ (n : ℕ). around before.ring n before.used old.bytes) (sym k.front)
-      ∙ ap (λ (n : ℕ). around before.ring (front_at (head_of before.odd old.bytes) old.bytes) n old.bytes) (sym k.used)
+      ∙ ap (λ (n : ℕ). around before.ring (front_at (place_of before.odd) old.bytes) n old.bytes) (sym k.used)
       ∙ k.holds.records in
       around-add before.ring before.front before.used before.appended old.bytes
       ∙ ap (λ (l : List ℕ). l ++ around before.ring (before.front + before.used) before.appended old.bytes) first
@@ -81,20 +123,28 @@ module _ (before : Marks) (kept appended left : List Kept) (dropped : ℕ) (note
   base_long : length base ≡ RING + before.ring
   base_long = length-written (place_of (not before.odd)) (head_bytes_of next) old.bytes head_fits ∙ long
 
-  front_small : (before.front + dropped) % before.ring < before.ring
-  front_small = mod-lt (before.front + dropped) {m = before.ring} (omega (arith, sound.1))
+  front_written : front_at (place_of (not before.odd)) base ≡ (before.front + dropped) % before.ring
+  front_written =
+      let at = place_of (not before.odd) in
+      let none : at ≡ at + 0 = omega arith in
+      let small : (before.front + dropped) % before.ring < before.ring = mod-lt (before.front + dropped) {m = before.ring} (omega (arith, sound.1)) in
+      ap (λ (n : ℕ). number_at n base) none ∙ number_written at 0 (head_bytes_of next) old.bytes head_fits (omega (arith, length-head_bytes next noted))
+      ∙ first_number next.front next.used next.next note (omega (arith, small, sound.0))
 
-  front_there : front_at (place_of (not before.odd)) base ≡ (before.front + dropped) % before.ring
-  front_there = front_written (not before.odd) next noted old.bytes head_fits (omega (arith, front_small, sound.0))
+  used_written : used_at (place_of (not before.odd)) base ≡ before.used + before.appended - dropped
+  used_written =
+      number_written (place_of (not before.odd)) 8 (head_bytes_of next) old.bytes head_fits (omega (arith, length-head_bytes next noted))
+      ∙ second_number next.front next.used next.next note (omega (arith, sound.0, sound.2))
 
-  used_there : used_at (place_of (not before.odd)) base ≡ before.used + before.appended - dropped
-  used_there = used_written (not before.odd) next noted old.bytes head_fits (omega (arith, sound.0, sound.2))
+  next_written : next_at (place_of (not before.odd)) base ≡ before.next
+  next_written =
+      number_written (place_of (not before.odd)) 16 (head_bytes_of next) old.bytes head_fits (omega (arith, length-head_bytes next noted))
+      ∙ third_number next.front next.used next.next note sound.3
 
-  next_there : next_at (place_of (not before.odd)) base ≡ before.next
-  next_there = next_written (not before.odd) next noted old.bytes head_fits sound.3
-
-  note_there : note_at (place_of (not before.odd)) base ≡ note
-  note_there = note_written (not before.odd) next noted old.bytes head_fits
+  note_written : note_at (place_of (not before.odd)) base ≡ note
+  note_written =
+      between_written (place_of (not before.odd)) 24 NOTE (head_bytes_of next) old.bytes head_fits (omega (arith, length-head_bytes next noted))
+      ∙ note_behind (eight next.front ++ eight next.used ++ eight next.next) note NOTE refl noted
 
   ring_stays : (from count : ℕ) → around before.ring from count base ≡ around before.ring from count old.bytes
   ring_stays from count =
@@ -110,28 +160,30 @@ module _ (before : Marks) (kept appended left : List Kept) (dropped : ℕ) (note
 
   pub left_by : KeepsBy next left base
   left_by =
-      keeps_at next left base (place_of (not before.odd)) (first_counts (not before.odd) next noted old.bytes head_fits)
-      (record {
-        opened = opening_stays ∙ read.holds.opened;
-        whole = whole_written (not before.odd) next noted old.bytes head_fits;
-        long = base_long;
-        front = omega (arith, front_there, front_small);
-        used = omega (arith, used_there, sound.2);
-        records = ap (λ (n : ℕ). around before.ring n (used_at (place_of (not before.odd)) base) base) front_there
-            ∙ ap (λ (n : ℕ). around before.ring ((before.front + dropped) % before.ring) n base) used_there
-            ∙ around-mod before.ring (before.front + dropped) (before.used + before.appended - dropped) base
-            ∙ ring_stays (before.front + dropped) (before.used + before.appended - dropped)
-            ∙ sym (drop-around before.ring before.front (before.used + before.appended) dropped old.bytes le)
-            ∙ ap (λ (l : List ℕ). drop dropped l) all
-            ∙ sym is_left.records;
-        lawful = is_left.lawful;
-        rising = subst (λ (n : ℕ). AreRising 0 left n) (sym next_there) is_left.rising;
-        noted = note_there;
-      })
-      front_there used_there
+      let small : (before.front + dropped) % before.ring < before.ring = mod-lt (before.front + dropped) {m = before.ring} (omega (arith, sound.1)) in
+      record {
+        holds = record {
+          opened = opening_stays ∙ read.holds.opened;
+          long = base_long;
+          front = omega (arith, front_written, small);
+          used = omega (arith, used_written, sound.2);
+          records = ap (λ (n : ℕ). around before.ring n (used_at (place_of (not before.odd)) base) base) front_written
+              ∙ ap (λ (n : ℕ). around before.ring ((before.front + dropped) % before.ring) n base) used_written
+              ∙ around-mod before.ring (before.front + dropped) (before.used + before.appended - dropped) base
+              ∙ ring_stays (before.front + dropped) (before.used + before.appended - dropped)
+              ∙ sym (drop-around before.ring before.front (before.used + before.appended) dropped old.bytes le)
+              ∙ ap (λ (l : List ℕ). drop dropped l) all
+              ∙ sym is_left.records;
+          lawful = is_left.lawful;
+          rising = subst (λ (n : ℕ). AreRising 0 left n) (sym next_written) is_left.rising;
+          noted = note_written;
+        };
+        front = front_written;
+        used = used_written;
+      }
 
   -- bytes that only the selecting byte may differ in
-  agrees : (odd : Bool) (bytes after : List ℕ) (front used : ℕ) → length bytes ≡ RING + before.ring → IsSelecting bytes after → Agrees odd before.ring bytes after
+  agrees : (odd : Bool) (bytes after : List ℕ) (front used : ℕ) → length bytes ≡ RING + before.ring → IsSelecting bytes after → Agrees (place_of odd) before.ring bytes after
   agrees odd bytes after front used whole selecting =
       let head = head_within odd in
       record {
@@ -139,8 +191,8 @@ module _ (before : Marks) (kept appended left : List Kept) (dropped : ℕ) (note
         opening = λ q less. selecting.same q (omega (arith, less, whole)) (λ is. omega (arith, is, less));
         head = λ q from less. selecting.same q (omega (arith, less, whole, head.1)) (λ is. omega (arith, is, from, head.0));
         records = λ i less.
-            (let p = (front_at (head_of odd bytes) bytes + i) % before.ring in
-            let inside : p < before.ring = mod-lt (front_at (head_of odd bytes) bytes + i) {m = before.ring} (omega (arith, sound.1)) in
+            (let p = (front_at (place_of odd) bytes + i) % before.ring in
+            let inside : p < before.ring = mod-lt (front_at (place_of odd) bytes + i) {m = before.ring} (omega (arith, sound.1)) in
             selecting.same (RING + p) (omega (arith, whole, inside)) (λ is. omega (arith, is)));
       }
 
@@ -150,23 +202,6 @@ module _ (before : Marks) (kept appended left : List Kept) (dropped : ℕ) (note
       let a = keeps_by before kept bytes after (agrees before.odd bytes after 0 0 first.holds.long selecting) first in
       let b = keeps_by next left bytes after (agrees (not before.odd) bytes after 0 0 first.holds.long selecting) other in
       ⊎_elim (λ same. inl (from_marks before kept after same a).holds) (λ turned. inr (from_marks next left after turned b).holds) (same_or_other (selected after) before.odd)
-
-  -- the head that was written stands twice, also where only the selecting byte was changed since
-  twice_now : (bytes now : List ℕ) → place_of (not before.odd) ≡ counting now → bytes ≡ base → IsSelecting bytes now → IsTwice now
-  twice_now bytes now at is selecting =
-      let place = place_of (not before.odd) in
-      let head = head_within (not before.odd) in
-      let whole : length bytes ≡ RING + before.ring = ap length is ∙ base_long in
-      let stays : (from : ℕ) → 24 < from → from + HEAD + SUM ≤ RING → head_at from now ≡ head_at from bytes =
-      λ from low high.
-      between_same from (from + HEAD + SUM) bytes now selecting.long
-      (λ q above below. selecting.same q (omega (arith, below, high, whole)) (λ there. omega (arith, there, above, low))) in
-      subst (λ (n : ℕ). head_at n now ≡ head_at (n + COPY) now) at
-      (stays place head.0 (omega (arith, head.1))
-      ∙ ap (λ (l : List ℕ). head_at place l) is
-      ∙ twice_written (not before.odd) next noted old.bytes head_fits
-      ∙ ap (λ (l : List ℕ). head_at (place + COPY) l) (sym is)
-      ∙ sym (stays (place + COPY) (omega (arith, head.0)) head.1))
 
   pub turned_whole : (done : Unit {0}) (result : Result (Unit {0}) Failed) (mid new : FileRecord) → IsConsistent mid
       → WritesHead (Ok done) (turned dropped note before) old mid → Selects result (not before.odd) mid new
@@ -183,7 +218,7 @@ module _ (before : Marks) (kept appended left : List Kept) (dropped : ℕ) (note
 
   pub turn_selected : (done so : Unit {0}) (mid new : FileRecord) → IsConsistent mid → WritesHead (Ok done) (turned dropped note before) old mid
       → Selects (Ok so) (not before.odd) mid new
-      → Stands (turned dropped note before) left [] new × IsSettled new × LeavesOnly (HoldsEither before.ring kept before.note left note) old new × IsTwice new.bytes
+      → Stands (turned dropped note before) left [] new × IsSettled new × LeavesOnly (HoldsEither before.ring kept before.note left note) old new
   turn_selected done so mid new mid_consistent wrote selects_it =
       let t = turned_whole done (Ok so) mid new mid_consistent wrote selects_it in
       let s = selects_it t.3 t.4 in
@@ -214,8 +249,6 @@ module _ (before : Marks) (kept appended left : List Kept) (dropped : ℕ) (note
         s.1,
         joined (HoldsEither before.ring kept before.note left note) old mid new t.0
             (weaker (IsSelecting mid.bytes) (HoldsEither before.ring kept before.note left note) (λ l selecting. either mid.bytes l t.1 t.2 selecting) mid new s.0),
-        subst (λ (bytes : List ℕ). IsTwice bytes) (sym s.2)
-            (twice_now mid.bytes now (sym (ap place_of (selected_is now byte (not before.odd) there (selects (not before.odd))))) (wrote before kept sound refl stands.crash).2 only),
       )
 
   pub turn_not_selected : (done : Unit {0}) (failed : Failed) (mid new : FileRecord) → IsConsistent mid → WritesHead (Ok done) (turned dropped note before) old mid

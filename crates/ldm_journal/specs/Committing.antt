@@ -13,9 +13,7 @@ use Rattle.ldm_journal.specs.declared.fault.JournalFault.TheVariants as fault
 use Rattle.ldm_journal.specs.declared.commit.CommitEnd.{CommitEnd}
 use Rattle.ldm_journal.specs.declared.commit.CommitEnd.TheVariants.{Committed, NotAJournal, DiskFault}
 use Rattle.ldm_journal.specs.Records.{Kept, eight, fitting, records_of, IsLawful, AreRising}
-use Rattle.md5.specs.Md5.{md5}
-use Rattle.ldm_journal.specs.Format.{Holds, place_of, zeros}
-use Rattle.ldm_journal.specs.Damage.{IsTwice}
+use Rattle.ldm_journal.specs.Format.{Holds, place_of}
 use Rattle.ldm_journal.specs.Standing.{Keeps, Stands}
 use Rattle.ldm_journal.specs.Pushing.{CrashKeeps}
 use Rattle.ldm_journal.specs.Sound.{IsSound}
@@ -30,13 +28,12 @@ abbrev pub kept_after : ℕ → Marks → List Kept → List Kept → List Kept
 kept_after gap marks kept appended = fitting (marks.ring - gap) (kept ++ appended)
 
 -- What committing did, by its end, whatever the journal stands for. A crash at any moment of it leaves what was
--- committed before, with the note of then, or what is after, with the note that is given. The head that counts then
--- stands twice.
+-- committed before, with the note of then, or what is after, with the note that is given.
 abbrev pub Commits : CommitEnd → ℕ → List ℕ → Marks → Marks → FileRecord → FileRecord → Type 0
 Commits Committed gap note before after old new =
     (kept appended : List Kept) → Stands before kept appended old →
     let left = kept_after gap before kept appended in
-    Stands after left [] new × IsSettled new × LeavesOnly (HoldsEither before.ring kept before.note left note) old new × IsTwice new.bytes
+    Stands after left [] new × IsSettled new × LeavesOnly (HoldsEither before.ring kept before.note left note) old new
 -- a file for which the journal stands never ends so
 Commits NotAJournal gap note before after old new = (kept appended : List Kept) → ¬ (Stands before kept appended old)
 Commits DiskFault gap note before after old new =
@@ -94,22 +91,14 @@ pub record IsLeft (dropped : ℕ) (marks : Marks) (kept appended left : List Kep
 abbrev pub Turns : Result (Unit {0}) Failed → ℕ → List ℕ → Marks → Marks → FileRecord → FileRecord → Type 0
 Turns (Ok done) dropped note before after old new =
     (kept appended left : List Kept) → Stands before kept appended old → IsLeft dropped before kept appended left →
-    Stands after left [] new × IsSettled new × LeavesOnly (HoldsEither before.ring kept before.note left note) old new × IsTwice new.bytes
+    Stands after left [] new × IsSettled new × LeavesOnly (HoldsEither before.ring kept before.note left note) old new
 Turns (Err failed) dropped note before after old new =
     (kept appended left : List Kept) → Stands before kept appended old → IsLeft dropped before kept appended left →
     LeavesOnly (HoldsEither before.ring kept before.note left note) old new
 
--- what the head of a journal says
-abbrev pub said_by : Marks → List ℕ
-said_by marks = eight marks.front ++ eight marks.used ++ eight marks.next ++ marks.note
-
--- bytes with their sum behind them
-unfoldable pub summed : List ℕ → List ℕ
-summed bytes = bytes ++ md5 bytes
-
--- the bytes of the head of a journal: it stands twice
+-- the bytes of the head of a journal
 abbrev pub head_bytes_of : Marks → List ℕ
-head_bytes_of marks = summed (said_by marks) ++ (zeros 472 ++ summed (said_by marks))
+head_bytes_of marks = eight marks.front ++ eight marks.used ++ eight marks.next ++ marks.note
 
 -- The head of a journal was written, beside the one that counts, and synced; or a call failed.
 abbrev pub WritesHead : Result (Unit {0}) Failed → Marks → FileRecord → FileRecord → Type 0
@@ -127,7 +116,7 @@ pub record IsSelecting (before after : List ℕ) : Type 0 where
 -- the byte that selects a head
 abbrev pub select_byte : Bool → ℕ
 select_byte false = 0
-select_byte true = 255
+select_byte true = 1
 
 -- A head was selected, and that was synced; or a call failed.
 abbrev pub Selects : Result (Unit {0}) Failed → Bool → FileRecord → FileRecord → Type 0

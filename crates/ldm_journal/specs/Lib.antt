@@ -10,4 +10,3 @@ pub mod Making
 pub mod Opening
 pub mod Runs
 pub mod Joining
-pub mod Damage

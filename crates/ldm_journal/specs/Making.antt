@@ -3,10 +3,8 @@ use Rattle.std.specs.Prelude.{◌≡◌, ◌≢◌, ◌⊎◌, ℕ, ◌+◌, ◌
 use Rattle.ldm_outside.specs.declared.fault.Failed.{Failed}
 use Rattle.ldm_disk.specs.Told.{FileRecord, IsSettled}
 use Rattle.ldm_disk.specs.Moments.{LeavesOnly}
-use Rattle.ldm_disk.specs.Model.{written_at}
-use Rattle.ldm_journal.specs.declared.places.TheConstants.{HEAD_A, RING}
+use Rattle.ldm_journal.specs.declared.places.TheConstants.{RING}
 use Rattle.ldm_journal.specs.declared.marks.Marks.{Marks}
-use Rattle.ldm_journal.specs.Committing.{head_bytes_of}
 use Rattle.ldm_journal.specs.Format.{no_note, opening, zeros}
 use Rattle.ldm_journal.specs.Standing.{Keeps}
 
@@ -16,7 +14,7 @@ first_marks ring = record { ring = ring; odd = false; front = 0; used = 0; appen
 
 -- what stands in front of its ring
 abbrev pub first_front : ℕ → List ℕ
-first_front ring = written_at HEAD_A (head_bytes_of (first_marks ring)) (opening ring ++ zeros 12264)
+first_front ring = opening ring ++ zeros 12264
 
 -- What a crash may leave while a journal is made in an empty file: one that has another length than a journal with that
 -- ring, or a journal that keeps nothing.

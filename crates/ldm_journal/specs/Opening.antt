@@ -1,5 +1,5 @@
 -- What opening a journal answers.
-use Rattle.std.specs.Prelude.{◌≡◌, ◌≢◌, ◌⊎◌, ℕ, ◌+◌, ◌^◌, ◌<◌, Bool, true, List, [], length, take, Result, Ok, Err}
+use Rattle.std.specs.Prelude.{◌≡◌, ◌≢◌, ◌⊎◌, ℕ, ◌+◌, ◌^◌, ◌<◌, Bool, List, [], length, take, Result, Ok, Err}
 use Rattle.std.specs.List.{AllByRecursion}
 use Rattle.ldm_disk.specs.Told.{FileRecord, IsSettled}
 use Rattle.ldm_disk.specs.Moments.{LeavesOnly}
@@ -10,7 +10,7 @@ use Rattle.ldm_journal.specs.declared.marks.Marks.{Marks}
 use Rattle.ldm_journal.specs.declared.fault.JournalFault.{JournalFault}
 use Rattle.ldm_journal.specs.declared.fault.JournalFault.TheVariants.{NotAJournal, OtherRing, OtherLength, BadHead, BadRecord, DiskFault, OutOfMemory}
 use Rattle.ldm_journal.specs.Records.{Kept, records_of, IsLawful, AreRising}
-use Rattle.ldm_journal.specs.Format.{Holds, opening, selected, is_whole, head_of, front_at, used_at, next_at, note_at, no_note, around}
+use Rattle.ldm_journal.specs.Format.{Holds, opening, selected, place_of, front_at, used_at, next_at, note_at, no_note, around}
 use Rattle.ldm_journal.specs.Standing.{Keeps, Stands}
 use Rattle.ldm_journal.specs.Making.{LeftOfMaking}
 
@@ -74,25 +74,24 @@ IsOfFile fault = Unit {0}
 pub record HasNumbers (marks : Marks) (size : ℕ) (which : Bool) (bytes : List ℕ) : Type 0 where
   pub ring : marks.ring ≡ size
   pub odd : marks.odd ≡ which
-  pub front : marks.front ≡ front_at (head_of which bytes) bytes
-  pub used : marks.used ≡ used_at (head_of which bytes) bytes
+  pub front : marks.front ≡ front_at (place_of which) bytes
+  pub used : marks.used ≡ used_at (place_of which) bytes
   pub appended : marks.appended ≡ 0
-  pub next : marks.next ≡ next_at (head_of which bytes) bytes
+  pub next : marks.next ≡ next_at (place_of which) bytes
   pub small : marks.next < 2 ^ 64
-  pub note : marks.note ≡ note_at (head_of which bytes) bytes
+  pub note : marks.note ≡ note_at (place_of which) bytes
 
 -- the marks are what the head says that counts
 pub record HasMarks (marks : Marks) (size : ℕ) (file : List ℕ) : Type 0 where
   pub opened : take 24 file ≡ opening size
   pub long : length file ≡ RING + size
-  pub whole : is_whole (head_of (selected file) file) file ≡ true
   pub ring : marks.ring ≡ size
   pub odd : selected file ≡ marks.odd
-  pub front : front_at (head_of (selected file) file) file ≡ marks.front
-  pub used : used_at (head_of (selected file) file) file ≡ marks.used
-  pub next : next_at (head_of (selected file) file) file ≡ marks.next
+  pub front : front_at (place_of (selected file)) file ≡ marks.front
+  pub used : used_at (place_of (selected file)) file ≡ marks.used
+  pub next : next_at (place_of (selected file)) file ≡ marks.next
   pub appended : marks.appended ≡ 0
-  pub note : note_at (head_of (selected file) file) file ≡ marks.note
+  pub note : note_at (place_of (selected file)) file ≡ marks.note
 
 -- What stands in front of the ring was judged, and the length.
 abbrev pub JudgesFront : Result Marks JournalFault → ℕ → List ℕ → Type 0

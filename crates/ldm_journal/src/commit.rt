@@ -1,11 +1,9 @@
 //! Committing what was appended to a journal.
-ghost use Rattle.std.specs.Prelude.{◌≡◌, ◌≢◌, ◌+◌, ◌-◌, ◌≤◌, ◌++◌, length, IfErr, IfOk, IfSome, OnErr, OnOk};
+ghost use Rattle.std.specs.Prelude.{◌≡◌, ◌≢◌, ◌+◌, ◌-◌, ◌≤◌, length, IfErr, IfOk, IfSome, OnErr, OnOk};
 ghost use Rattle.ldm_disk.specs.Calls.{FileChanges, KeepsDisk, KeepsFile, Rises};
 ghost use Rattle.ldm_journal.specs.Committing.{Commits, DropsFor, EndsCommitting, Frees, NotesCommitting, Selects};
-ghost use Rattle.ldm_journal.specs.Committing.{Turns, WritesHead, end_of, head_bytes_of, said_by, select_byte, summed};
-ghost use Rattle.ldm_journal.specs.Committing.{turned};
-ghost use Rattle.ldm_journal.specs.declared.places.TheConstants.{COPY, HEAD, RING, SUM};
-ghost use Rattle.ldm_journal.specs.Format.{place_of, zeros};
+ghost use Rattle.ldm_journal.specs.Committing.{Turns, WritesHead, end_of, head_bytes_of, select_byte, turned};
+ghost use Rattle.ldm_journal.specs.Format.{place_of};
 ghost use Rattle.ldm_journal.specs.Sound.{IsSound};
 ghost use Rattle.ldm_journal.specs.Reading.{FaultRose};
 
@@ -13,19 +11,12 @@ use crate::fault::JournalFault;
 use crate::journal::Journal;
 use crate::marks::Marks;
 use crate::next::record_len;
-use crate::places::{COPY, HEAD, HEAD_A, HEAD_B, NOTE, SELECT, SUM};
-use crate::record::sum_of;
+use crate::places::{HEAD_A, HEAD_B, NOTE, SELECT};
 use ldm_disk::Disk;
 use ldm_outside::Failed;
 
-/// Bytes of a head that stands twice.
-pub(crate) const BLOCK: usize = (COPY + HEAD + SUM) as usize;
-
-// Bytes of what a head says.
-const SAID: usize = HEAD as usize;
-
-// Bytes of a head with its sum.
-const WITH_SUM: usize = (HEAD + SUM) as usize;
+// Bytes of a head: three numbers and a note.
+const HEAD: usize = 24 + NOTE;
 
 /// How committing ended.
 #[derive(Clone, Copy, Debug, PartialEq, Eq)]
@@ -160,46 +151,16 @@ fn write_head<D: Disk>(disk: &mut D, next: &Marks) -> Result<(), Failed>
 
 /// Where a head stands.
 pub(crate) fn place_of(odd: bool) -> u64
-    ensures place { result ≡ place_of odd }
-    ensures within { result + COPY + HEAD + SUM ≤ RING }
+    ensures { result ≡ place_of odd }
 {
     if odd { HEAD_B } else { HEAD_A }
 }
 
-/// The bytes of a head, which stands twice.
-pub(crate) fn head_of(next: &Marks) -> [u8; BLOCK]
+// The bytes of a head.
+fn head_of(next: &Marks) -> [u8; HEAD]
     ensures { result ≡ head_bytes_of next.now }
 {
-    twice(&with_sum(&said_by(next)))
-}
-
-// Bytes, twice.
-#[tactic(auto, unfolding(crate::specs::Format::zeros))]
-fn twice(head: &[u8; WITH_SUM]) -> [u8; BLOCK]
-    ensures { result ≡ head.now ++ (zeros 472 ++ head.now) }
-{
-    let mut block = [0u8; BLOCK];
-    block[..WITH_SUM].copy_from_slice(head);
-    block[COPY as usize..].copy_from_slice(head);
-    block
-}
-
-// What a head says, with its sum.
-#[tactic(auto, unfolding(crate::specs::Committing::summed))]
-fn with_sum(said: &[u8; SAID]) -> [u8; WITH_SUM]
-    ensures { result ≡ summed said.now }
-{
-    let mut head = [0u8; WITH_SUM];
-    head[..SAID].copy_from_slice(said);
-    head[SAID..].copy_from_slice(&sum_of(said, &[]));
-    head
-}
-
-// What a head says.
-fn said_by(next: &Marks) -> [u8; SAID]
-    ensures { result ≡ said_by next.now }
-{
-    let mut head = [0u8; SAID];
+    let mut head = [0u8; HEAD];
     head[..8].copy_from_slice(&next.front.to_be_bytes());
     head[8..16].copy_from_slice(&next.used.to_be_bytes());
     head[16..24].copy_from_slice(&next.next.to_be_bytes());
@@ -223,5 +184,5 @@ fn select<D: Disk>(disk: &mut D, odd: bool) -> Result<(), Failed>
 fn select_byte(odd: bool) -> u8
     ensures { result ≡ select_byte odd }
 {
-    if odd { 255 } else { 0 }
+    if odd { 1 } else { 0 }
 }

@@ -1,17 +1,15 @@
 //! What the contracts amount to. These functions do nothing: their contracts are the laws.
-ghost use Rattle.std.specs.Prelude.{◌≡◌, ◌<◌, ◌≤◌, ◌+◌, ◌-◌, ◌^◌, ◌++◌, ◌∷◌, [], ℕ, Bool, true, false, List, length};
-ghost use Rattle.std.specs.Prelude.{bit_xor, count_ones, drop, nat_le};
+ghost use Rattle.std.specs.Prelude.{◌≡◌, ◌<◌, ◌≤◌, ◌+◌, ◌-◌, ◌++◌, ◌∷◌, [], ℕ, List, length, drop};
 ghost use Rattle.ldm_disk.specs.Told.{FileRecord, IsConsistent};
-ghost use Rattle.ldm_journal.specs.declared.places.TheConstants.{COPY, HEAD, LARGEST_RING, SELECT, SUM};
+ghost use Rattle.ldm_journal.specs.declared.places.TheConstants.{LARGEST_RING};
 ghost use Rattle.ldm_journal.specs.Records.{Kept, fitting, size_of};
-ghost use Rattle.ldm_journal.specs.Format.{Holds, is_whole, selected};
-ghost use Rattle.ldm_journal.specs.Damage.{IsSpoilt, IsTwice, counting};
+ghost use Rattle.ldm_journal.specs.Format.{Holds};
 ghost use Rattle.ldm_journal.specs.Runs.{Content, Event, Append, Commit, IsPart, MayOpen, after_events, appended_in};
 ghost use Rattle.ldm_journal.specs.Runs.{committed_in, noted_in, opened};
 ghost use Rattle.ldm_journal.specs.Joining.{BreaksOffAmid, IsLeftAmid, IsPartAmid, MakesEvents, then_events};
 ghost use Rattle.ldm_journal.specs.Standing.{Stands};
 ghost use Rattle.ldm_journal.specs.Appending.{Appends};
-ghost use Rattle.ldm_journal.specs.Committing.{Commits, select_byte};
+ghost use Rattle.ldm_journal.specs.Committing.{Commits};
 ghost use Rattle.ldm_journal.specs.declared.marks.Marks.{Marks};
 ghost use Rattle.ldm_journal.specs.declared.append.AppendEnd.TheVariants as append;
 ghost use Rattle.ldm_journal.specs.declared.commit.CommitEnd.TheVariants as commit;
@@ -65,23 +63,6 @@ pub fn calls_make_events()
         → BreaksOffAmid (then_events first more) a old new }
     ensures part { (ring : ℕ) (first : List Kept) (begun : List ℕ) (events : List Event) (file : List ℕ)
         → IsLeftAmid ring (opened first begun) events file → IsPartAmid ring first begun events file }
-{}
-
-/// A fault of the disk in one copy of a head, or in the byte that selects one, costs nothing: where a head stands twice, as
-/// each commit leaves it, and the sum of the copy that was spoilt does not hold, the same products are kept with the
-/// same note. Nor does a flipped bit of that byte select the other head.
-pub fn a_spoilt_head_costs_nothing()
-    ensures first { (ring : ℕ) (kept : List Kept) (note before after : List ℕ) → Holds ring kept note before
-        → IsTwice before → IsSpoilt (counting before) (counting before + HEAD + SUM) before after
-        → is_whole (counting before) after ≡ false → Holds ring kept note after }
-    ensures second { (ring : ℕ) (kept : List Kept) (note before after : List ℕ) → Holds ring kept note before
-        → is_whole (counting before) before ≡ true
-        → IsSpoilt (counting before + COPY) (counting before + COPY + HEAD + SUM) before after
-        → Holds ring kept note after }
-    ensures byte { (ring : ℕ) (kept : List Kept) (note before after : List ℕ) → Holds ring kept note before
-        → IsSpoilt SELECT (SELECT + 1) before after → selected after ≡ selected before → Holds ring kept note after }
-    ensures bit { (odd : Bool) (place : ℕ) → place < 8
-        → nat_le 4 (count_ones (bit_xor (select_byte odd) (2 ^ place))) ≡ odd }
 {}
 
 /// The marks of an open journal count the bytes of the records for which it stands.

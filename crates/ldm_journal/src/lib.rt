@@ -7,7 +7,6 @@
 mod append;
 mod commit;
 mod entry;
-mod examples;
 mod fault;
 mod journal;
 mod laws;
@@ -24,12 +23,11 @@ mod record;
 pub use append::AppendEnd;
 pub use commit::CommitEnd;
 pub use entry::Entry;
-pub use examples::a_worked_example;
 pub use fault::JournalFault;
 pub use journal::Journal;
 pub use laws::{
-    a_crash_leaves_a_part, a_file_keeps_one_list, a_spoilt_head_costs_nothing, calls_make_events,
-    marks_count_records, the_fewest_are_dropped,
+    a_crash_leaves_a_part, a_file_keeps_one_list, calls_make_events, marks_count_records,
+    the_fewest_are_dropped,
 };
 pub use places::NOTE;
 pub use reader::Reader;

@@ -2,12 +2,10 @@
 ghost use Rattle.std.specs.Prelude.{◌≡◌, ◌<◌, ◌≤◌};
 ghost use Rattle.ldm_disk.specs.Calls.{FileChanges, KeepsDisk, Rises};
 ghost use Rattle.ldm_journal.specs.declared.places.TheConstants.{LARGEST_RING};
-ghost use Rattle.ldm_journal.specs.Format.{no_note, opening};
-ghost use Rattle.ldm_journal.specs.Making.{Lays, Makes, Widens, first_front, first_marks};
+ghost use Rattle.ldm_journal.specs.Format.{opening};
+ghost use Rattle.ldm_journal.specs.Making.{Lays, Makes, Widens, first_front};
 
-use crate::commit::{BLOCK, head_of};
-use crate::marks::Marks;
-use crate::places::{HEAD_A, NOTE, RING};
+use crate::places::RING;
 use ldm_disk::Disk;
 use ldm_outside::Failed;
 
@@ -16,7 +14,7 @@ pub(crate) const FRONT: usize = RING as usize;
 
 /// How the file of any journal begins.
 pub(crate) const NAME: [u8; 16] = [
-    76, 68, 77, 32, 106, 111, 117, 114, 110, 97, 108, 0, 0, 0, 0, 3,
+    76, 68, 77, 32, 106, 111, 117, 114, 110, 97, 108, 0, 0, 0, 0, 2,
 ];
 
 /// Makes an empty file a journal that keeps nothing.
@@ -69,32 +67,7 @@ fn front_of(ring: u64) -> [u8; FRONT]
 {
     let mut front = [0u8; FRONT];
     front[..24].copy_from_slice(&opening(ring));
-    let head = head_of(&first_marks(ring));
-    front[HEAD_A as usize..HEAD_A as usize + BLOCK].copy_from_slice(&head);
     front
-}
-
-/// The marks of a journal with a ring of that size that keeps nothing and was just made.
-pub(crate) fn first_marks(ring: u64) -> Marks
-    ensures { result ≡ first_marks ring }
-{
-    Marks {
-        ring,
-        odd: false,
-        front: 0,
-        used: 0,
-        appended: 0,
-        next: 0,
-        note: no_note(),
-    }
-}
-
-// The note of a journal that was just made.
-#[tactic(auto, unfolding(crate::specs::Format::zeros))]
-fn no_note() -> [u8; NOTE]
-    ensures { result ≡ no_note }
-{
-    [0; NOTE]
 }
 
 /// How the file of a journal with a ring of that size begins.

@@ -1,24 +1,24 @@
 //! Opening a journal.
-ghost use Rattle.std.specs.Prelude.{◌≡◌, ◌≢◌, ◌↔◌, IsTrue, true, ◌+◌, ◌<◌, ◌≤◌, List, ℕ, length, take, IfErr, IfOk, IfSome};
+ghost use Rattle.std.specs.Prelude.{◌≡◌, ◌≢◌, ◌↔◌, IsTrue, ◌+◌, ◌<◌, ◌≤◌, List, ℕ, length, take, IfErr, IfOk, IfSome};
 ghost use Rattle.std.specs.List.{between};
 ghost use Rattle.ldm_disk.specs.Calls.{FileChanges, KeepsDisk, KeepsFile};
 ghost use Rattle.ldm_disk.specs.Told.{IsSettled};
-ghost use Rattle.ldm_journal.specs.declared.places.TheConstants.{HEAD, LARGEST_RING, RING, SUM};
+ghost use Rattle.ldm_journal.specs.declared.places.TheConstants.{LARGEST_RING, RING};
 ghost use Rattle.ldm_journal.specs.Opening.{HasNumbers, IsOfFile, JudgesFile, JudgesFront, JudgesRecords, Opens};
 ghost use Rattle.ldm_journal.specs.Opening.{marks_of};
-ghost use Rattle.ldm_journal.specs.Format.{head_of, is_whole, opening, selected};
+ghost use Rattle.ldm_journal.specs.Format.{no_note, opening, selected};
 ghost use Rattle.ldm_journal.specs.Reading.{FaultRose};
 ghost use Rattle.ldm_journal.specs.Sound.{IsSound};
 
 use crate::commit::place_of;
 use crate::fault::JournalFault;
 use crate::journal::Journal;
-use crate::make::{FRONT, NAME, first_marks, make, opening};
+use crate::make::{FRONT, NAME, make, opening};
 use crate::marks::Marks;
 use crate::next::read_record;
-use crate::places::{COPY, HEAD, NOTE, RING, SELECT, SUM};
+use crate::places::{NOTE, RING, SELECT};
 use crate::read::fill;
-use crate::record::{is_sum, number_in};
+use crate::record::number_in;
 use ldm_disk::Disk;
 use std::alloc::Global;
 
@@ -97,9 +97,25 @@ fn marks_made<D: Disk>(disk: &mut D, ring: u64) -> Result<Marks, JournalFault>
     ensures kept { KeepsDisk (D.tells disk.old) (D.tells disk.new) }
 {
     match make(disk, ring) {
-        Ok(()) => Ok(first_marks(ring)),
+        Ok(()) => Ok(Marks {
+            ring,
+            odd: false,
+            front: 0,
+            used: 0,
+            appended: 0,
+            next: 0,
+            note: no_note(),
+        }),
         Err(_) => Err(JournalFault::DiskFault),
     }
+}
+
+// The note of a journal that was just made.
+#[tactic(auto, unfolding(crate::specs::Format::zeros))]
+fn no_note() -> [u8; NOTE]
+    ensures { result ≡ no_note }
+{
+    [0; NOTE]
 }
 
 // The marks of the journal in a file of that length.
@@ -190,36 +206,17 @@ fn judge_head(front: &[u8], ring: u64, len: u64) -> Result<Marks, JournalFault>
     ensures of_file { IfErr result IsOfFile }
 {
     if is_long(len, ring) {
-        whole_marks(front, ring)
+        ordered_marks(front, ring)
     } else {
         Err(JournalFault::OtherLength)
     }
 }
 
 // The same where the length is right too.
-fn whole_marks(front: &[u8], ring: u64) -> Result<Marks, JournalFault>
-    requires long { length front.now ≡ RING }
-    requires sized { ring ≤ LARGEST_RING }
-    requires opened { take 24 front.now ≡ opening ring }
-    ensures judged { (file : List ℕ) → front.now ≡ take RING file → length file ≡ RING + ring
-        → JudgesFront result ring file }
-    ensures sound { IfOk result IsSound }
-    ensures ring { IfOk result (λ marks. marks.ring ≡ ring) }
-    ensures of_file { IfErr result IsOfFile }
-{
-    if is_whole(front, head_in(front, is_odd(front))) {
-        ordered_marks(front, ring)
-    } else {
-        Err(JournalFault::BadHead)
-    }
-}
-
-// The same where the sum of the head holds that counts.
 fn ordered_marks(front: &[u8], ring: u64) -> Result<Marks, JournalFault>
     requires long { length front.now ≡ RING }
     requires sized { ring ≤ LARGEST_RING }
     requires opened { take 24 front.now ≡ opening ring }
-    requires whole { is_whole (head_of (selected front.now) front.now) front.now ≡ true }
     ensures judged { (file : List ℕ) → front.now ≡ take RING file → length file ≡ RING + ring
         → JudgesFront result ring file }
     ensures sound { IfOk result IsSound }
@@ -267,31 +264,7 @@ fn is_odd(front: &[u8]) -> bool
     requires { length front.now ≡ RING }
     ensures { result ≡ selected front.now }
 {
-    front[SELECT as usize].count_ones() >= 4
-}
-
-// Where a head is read.
-#[tactic(auto, unfolding(crate::specs::Format::head_of))]
-fn head_in(front: &[u8], odd: bool) -> usize
-    requires { length front.now ≡ RING }
-    ensures head { result ≡ head_of odd front.now }
-    ensures within { result + HEAD + SUM ≤ length front.now }
-{
-    let place = place_of(odd) as usize;
-    if is_whole(front, place) {
-        place
-    } else {
-        place + COPY as usize
-    }
-}
-
-// Whether the sum of a head holds.
-fn is_whole(front: &[u8], head: usize) -> bool
-    requires { head + HEAD + SUM ≤ length front.now }
-    ensures { result ≡ is_whole head front.now }
-{
-    let end = head + HEAD as usize;
-    is_sum(&front[head..end], &front[end..end + SUM as usize])
+    front[SELECT as usize] % 2 == 1
 }
 
 // The marks by the head that counts.
@@ -299,7 +272,7 @@ fn marks_at(front: &[u8], ring: u64, odd: bool) -> Marks
     requires { length front.now ≡ RING }
     ensures { HasNumbers result ring odd front.now }
 {
-    let head = head_in(front, odd);
+    let head = place_of(odd) as usize;
     Marks {
         ring,
         odd,

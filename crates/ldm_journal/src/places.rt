@@ -1,23 +1,14 @@
 //! Where the parts of the file of a journal stand. The byte that selects, each head and the ring are in blocks of
 //! 4,096 bytes of their own.
 
-/// The byte that tells which head counts: all its bits are set, or none.
+/// The byte that tells which head counts.
 pub const SELECT: u64 = 24;
 
-/// The head that counts where fewer than four bits of that byte are set.
+/// The head that counts where that byte is even.
 pub const HEAD_A: u64 = 4096;
 
-/// The head that counts where more are set.
+/// The head that counts where that byte is odd.
 pub const HEAD_B: u64 = 8192;
-
-/// Bytes of a head, up to its sum: three numbers and a note.
-pub const HEAD: u64 = 1560;
-
-/// Bytes of that sum.
-pub const SUM: u64 = 16;
-
-/// How far behind a head its copy stands.
-pub const COPY: u64 = 2048;
 
 /// The ring of records.
 pub const RING: u64 = 12288;

@@ -122,8 +122,8 @@ pub(crate) fn judge(bytes: &[u8]) -> Option<Entry>
     }
 }
 
-/// Whether bytes end in their sum.
-pub(crate) fn is_sum(front: &[u8], sum: &[u8]) -> bool
+// Whether bytes end in their sum.
+fn is_sum(front: &[u8], sum: &[u8]) -> bool
     ensures { IsTrue result ↔ (sum.now ≡ md5 front.now) }
 {
     sum == Md5::digest(front).as_slice()

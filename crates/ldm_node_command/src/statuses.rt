@@ -42,32 +42,12 @@ pub(crate) fn report<E: Sink>(
     ensures tells { Tells (status_of_node ending) result (E.tells log.old) (E.tells log.new) }
     ensures faults_kept { (E.tells log.old).faults ≤ (E.tells log.new).faults }
 {
-    let (store, net) = told_of(&ending, store, net);
     match status_of(ending) {
         Some(status) => {
             let reason = status.reason_among(conf, store, net, launcher);
             status.report_because(reason, log)
         }
         None => LOG_FAULT,
-    }
-}
-
-// What is said of a store and of a net at an ending, of what these say. The disk of a journal is the net's: the store
-// has no part in what comes behind the configuration, and nor has the net, but for that disk, where a node was run.
-fn told_of<'a>(
-    ending: &Result<Ran, NodeFault>,
-    store: &'a [u8],
-    net: &'a [u8],
-) -> (&'a [u8], &'a [u8])
-    requires store { IsReason store.now }
-    requires net { IsReason net.now }
-    ensures store { IsReason result.0.now }
-    ensures net { IsReason result.1.now }
-{
-    match ending {
-        Ok(_) => (net, b"".as_slice()),
-        Err(NodeFault::NotRestored(_)) => (net, net),
-        Err(_) => (store, net),
     }
 }
 

@@ -1,7 +1,7 @@
 //! A reason that is put together piece by piece.
-ghost use Rattle.std.specs.Prelude.{◌≡◌, ◌++◌, ◌-◌, [], decimal, length, take};
+ghost use Rattle.std.specs.Prelude.{◌≡◌, ◌++◌, ◌-◌, [], decimal, length, map, take};
 ghost use Rattle.ldm_outside.specs.Reason.{IsReason};
-ghost use Rattle.ldm_outside.specs.Putting.{hidden_len, is_hidden_pair, is_hidden_triple, shown, shown_by, with_text};
+ghost use Rattle.ldm_outside.specs.Putting.{shown, with_text};
 
 use crate::LONGEST_REASON;
 use arrayvec::ArrayVec;
@@ -52,8 +52,7 @@ impl Reason {
         self.text.clear();
     }
 
-    /// Appends as much of a text as there is room for. A control character becomes a `?`, and so does each
-    /// character that ends a line or turns its direction.
+    /// Appends as much of a text as there is room for. A control byte becomes a `?`.
     pub fn put(&mut self, text: &[u8])
         ensures { self.new ≡ with_text self.old text.now }
     {
@@ -75,59 +74,12 @@ fn put_shown(out: &mut ArrayVec<u8, LONGEST_REASON>, text: &[u8])
 {
     let room = LONGEST_REASON - out.len();
     let front = &text[..room.min(text.len())];
-    let mut left = 0;
-    let mut rest = front;
-    while let [byte, others @ ..] = rest {
-        if left > 0 {
-            left -= 1;
-        } else {
-            let hidden = hidden_len(rest);
-            out.push(shown_by(hidden, *byte));
-            left = hidden.saturating_sub(1);
-        }
-        rest = others;
+    for byte in front {
+        out.push(shown(*byte));
     }
 }
 
-// A byte with which a character of so many bytes begins that is not shown, or none where these are 0.
-fn shown_by(hidden: usize, byte: u8) -> u8
-    ensures { result ≡ shown_by hidden byte }
-{
-    if hidden > 0 { b'?' } else { shown(byte) }
-}
-
-// How many bytes a character has that a text begins with and that moves on a terminal, or turns the direction of a
-// line: U+0080 to U+009F, U+061C, U+200E, U+200F, U+2028 to U+202E, U+2066 to U+2069. 0 where it begins with none.
-fn hidden_len(text: &[u8]) -> usize
-    ensures { result ≡ hidden_len text.now }
-{
-    let [a, b, behind @ ..] = text else {
-        return 0;
-    };
-    if is_hidden_pair(*a, *b) {
-        return 2;
-    }
-    let [c, ..] = behind else {
-        return 0;
-    };
-    if is_hidden_triple(*a, *b, *c) { 3 } else { 0 }
-}
-
-fn is_hidden_pair(a: u8, b: u8) -> bool
-    ensures { result ≡ is_hidden_pair a b }
-{
-    (a == 194 && (128 <= b && b < 160)) || (a == 216 && b == 156)
-}
-
-fn is_hidden_triple(a: u8, b: u8, c: u8) -> bool
-    ensures { result ≡ is_hidden_triple a b c }
-{
-    a == 226
-        && ((b == 128 && ((142 <= c && c < 144) || (168 <= c && c < 175)))
-            || (b == 129 && (166 <= c && c < 170)))
-}
-
-// A byte as a log line has it: a control byte as a `?`.
+// A byte as a log line has it.
 fn shown(byte: u8) -> u8
     ensures { result ≡ shown byte }
 {

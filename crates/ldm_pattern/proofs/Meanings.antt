@@ -6,13 +6,13 @@ use Rattle.std.specs.Prelude.{nat_le, cond}
 use Rattle.std.specs.Str.{chars, is_utf8}
 use Rattle.regex.proofs.ForCallers.{is_match_alike}
 use Rattle.regex.specs.Bytes.{regex_config, regex_pattern, regex_source, IsReadFromSource}
-use Rattle.regex.specs.Failures.{IsPattern, IsRightKind}
+use Rattle.regex.specs.Failures.{IsRightKind}
 use Rattle.regex.specs.Names.{names_of}
 use Rattle.regex.specs.Patterns.{Re, SameCaptures, find}
 use Rattle.regex.specs.Sources.{IsRefusal}
 use Rattle.regex.specs.declared.bytes.regex.Regex.{Regex}
 use Rattle.regex.specs.declared.error.Error.{Error}
-use Rattle.regex.specs.declared.error.Error.TheVariants.{CompiledTooBig, Syntax}
+use Rattle.regex.specs.declared.error.Error.TheVariants.{Syntax}
 use Rattle.regex_hir.specs.Meaning.{meaning}
 use Rattle.regex_hir.specs.declared.hir.Hir.{Hir}
 use Rattle.regex_syntax.specs.Brackets.{Nested}
@@ -112,10 +112,3 @@ nothing_of_unread source kind not_memory refused =
 pub nothing_of_refused : (source : List ℕ) (error : Error) (e : parser.Error) → error ≡ Syntax e → IsRefusal byte_config source error →
     IsRightKind byte_config source error → pattern_meaning source ≡ None
 nothing_of_refused source error e is refused right = nothing_of_unread source e.kind (rw is at right) (refused e is)
-
--- a text that was refused for the size of what would be built is a pattern
-pub pattern_of_large : (source : List ℕ) → IsUtf8 source → (error : Error) → error ≡ CompiledTooBig → IsRightKind byte_config source error →
-    IsSome (pattern_meaning source)
-pattern_of_large source utf8 error is right =
-    let h : IsPattern byte_config source = rw is at right in
-    meant_is_pattern source (meaning h.0) (meant_by_read source utf8 h.0 h.1 h.2)

@@ -6,4 +6,3 @@ pub mod Parts
 pub mod Refusals
 pub mod BoundedView
 pub mod BoundedMatcherView
-pub mod KeptView

@@ -1,12 +1,10 @@
 -- Why a pattern is not built.
-use Rattle.std.specs.Prelude.{◌≡◌, ℕ, List, None, IsSome}
+use Rattle.std.specs.Prelude.{◌≡◌, ℕ, List, None}
 use Rattle.ldm_pattern.specs.Patterns.{pattern_meaning}
 use Rattle.ldm_pattern.specs.declared.pattern.Refusal.{Refusal}
-use Rattle.ldm_pattern.specs.declared.pattern.Refusal.TheVariants.{Meaningless, TooLarge, OutOfMemory}
+use Rattle.ldm_pattern.specs.declared.pattern.Refusal.TheVariants.{Meaningless, OutOfMemory}
 
--- the cause of a refusal: the pattern means nothing; or it means something, and is too large; or there is too little memory, of which
--- nothing is said
+-- the cause of a refusal: the pattern means nothing, or there is too little memory, of which nothing is said
 abbrev pub IsRefusedFor : List ℕ → Refusal → Type 0
 IsRefusedFor pattern Meaningless = pattern_meaning pattern ≡ None
-IsRefusedFor pattern TooLarge = IsSome (pattern_meaning pattern)
 IsRefusedFor pattern OutOfMemory = Unit {0}

@@ -5,7 +5,7 @@ ghost use Rattle.ldm_pattern.specs.Refusals.{IsRefusedFor};
 
 use crate::pattern::{Refusal, read};
 use ldm_types::OutOfMemory;
-use regex_compile::{Error, compile};
+use regex_compile::compile;
 use regex_dfa::{Dfa, End, Forward};
 use regex_vm::PikeVm;
 use std::alloc::Global;
@@ -15,8 +15,8 @@ use std::marker::Model;
 /// bytes.
 #[derive(Drop)]
 pub struct BoundedPattern {
-    pub(crate) source: Vec<u8>,
-    pub(crate) dfa: Dfa,
+    source: Vec<u8>,
+    dfa: Dfa,
 }
 
 impl Model for BoundedPattern {
@@ -33,19 +33,17 @@ impl Model for BoundedPattern {
 
 impl BoundedPattern {
     /// The pattern of these bytes, if what is built of it takes about as many bytes as `most` or fewer. A larger one
-    /// is `TooLarge`.
+    /// is `OutOfMemory`.
     pub fn build(alloc: Global, source: &[u8], most: usize) -> Result<BoundedPattern, Refusal>
         ensures { MatchResult result (λ pattern. (pattern ≡ source.now) × IsSome (pattern_meaning source.now))
             (IsRefusedFor source.now) }
     {
         let parsed = read(alloc, source)?;
         let Ok(groups) = u32::try_from(parsed.names.len()) else {
-            return Err(Refusal::TooLarge);
+            return Err(Refusal::OutOfMemory);
         };
-        let nfa = match compile(alloc, &parsed.hir, groups, most) {
-            Ok(nfa) => nfa,
-            Err(Error::TooBig) => return Err(Refusal::TooLarge),
-            Err(_) => return Err(Refusal::OutOfMemory),
+        let Ok(nfa) = compile(alloc, &parsed.hir, groups, most) else {
+            return Err(Refusal::OutOfMemory);
         };
         let Ok(dfa) = Dfa::new(alloc, nfa) else {
             return Err(Refusal::OutOfMemory);

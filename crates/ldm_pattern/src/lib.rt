@@ -5,12 +5,10 @@
 
 mod bounded;
 mod groups;
-mod kept;
 mod matcher;
 mod pattern;
 
 pub use bounded::{BoundedMatcher, BoundedPattern};
 pub use groups::{GroupNo, Groups};
-pub use kept::KeptMatcher;
 pub use matcher::Matcher;
 pub use pattern::{Pattern, Refusal};

@@ -1,5 +1,5 @@
 //! Patterns that are built.
-ghost use Rattle.std.specs.Prelude.{◌≡◌, IfOk, IsTrue, None, IsSome, is_some, MatchResult};
+ghost use Rattle.std.specs.Prelude.{◌≡◌, IfOk, None, IsSome, is_some, MatchResult};
 ghost use Rattle.std.specs.Option.{option_map};
 ghost use Rattle.ldm_pattern.specs.Parts.{group_parts, parts_of};
 ghost use Rattle.ldm_pattern.specs.Patterns.{pattern_meaning, IsMeantBy, found};
@@ -20,9 +20,7 @@ use std::marker::Model;
 pub enum Refusal {
     /// It is not UTF-8, the grammar of `regex` reads no pattern in it, or it nests too deep.
     Meaningless,
-    /// It is a pattern, and what would be built of it is larger than the caller or `regex` lets it be.
-    TooLarge,
-    /// There is too little memory.
+    /// There is too little memory, or what would be built is larger than `regex` builds.
     OutOfMemory,
 }
 
@@ -68,7 +66,7 @@ impl Pattern {
     }
 
     /// The pattern of these bytes, if what is built of it takes about as many bytes as `most` or fewer. A larger one
-    /// is `TooLarge`.
+    /// is `OutOfMemory`.
     pub fn build_within(alloc: Global, source: &[u8], most: usize) -> Result<Pattern, Refusal>
         ensures { MatchResult result (λ pattern. (pattern ≡ source.now) × IsSome (pattern_meaning source.now))
             (IsRefusedFor source.now) }
@@ -79,19 +77,7 @@ impl Pattern {
         match RegexBuilder::new(text).size_limit(most).build_bytes(alloc) {
             Ok(regex) => Ok(Pattern { regex }),
             Err(Error::Syntax(_)) => Err(Refusal::Meaningless),
-            Err(Error::CompiledTooBig) => Err(Refusal::TooLarge),
             Err(_) => Err(Refusal::OutOfMemory),
-        }
-    }
-
-    /// Whether these bytes are a pattern that [`Pattern::build`] refuses for its size alone.
-    pub fn is_too_large(alloc: Global, source: &[u8]) -> Result<bool, OutOfMemory>
-        ensures { IfOk result (λ is_large. IsTrue is_large → IsSome (pattern_meaning source.now)) }
-    {
-        match Pattern::build(alloc, source) {
-            Err(Refusal::TooLarge) => Ok(true),
-            Err(Refusal::OutOfMemory) => Err(OutOfMemory),
-            _ => Ok(false),
         }
     }
 
@@ -101,13 +87,6 @@ impl Pattern {
     {
         read(alloc, source)?;
         Ok(())
-    }
-
-    /// Its bytes.
-    pub fn source(&self) -> &[u8]
-        ensures { result.now ≡ self.now }
-    {
-        self.regex.as_str().as_bytes()
     }
 
     /// What searches for it in many texts.

@@ -12,7 +12,7 @@ use Rattle.ldm_shared.specs.Passes.{PassView, FindsWorn, Grows, IsSamePass}
 use Rattle.ldm_shared.specs.Reader.{HasCursor}
 use Rattle.ldm_shared.proofs.Using.{HasRowIn, RowsStay, row_stays, rows_then, same_then, uses_step, uses_worn}
 use Rattle.ldm_pqact_conf.specs.Entries.{EntryView}
-use Rattle.ldm_actions.specs.Outputs.{KeepsAll, Standing}
+use Rattle.ldm_actions.specs.Outputs.{KeepsUnlessSpent, Standing}
 use Rattle.ldm_pqact.specs.declared.end.ActEnd.{ActEnd}
 use Rattle.ldm_pqact.specs.declared.end.ActEnd.TheVariants as end
 use Rattle.ldm_pqact.specs.Acting.{ActsOn, ActsSome, Breaks, CauseOf, Does, EndsSo, HandlesBy, IsInHand, LogsFront, Sight, TurnsBy, last_answer, parted_of, sight_of}
@@ -237,17 +237,17 @@ gave law (Err why) entries k given old mid new a b log log' grows row broke =
 -- turns were made since the beginning
 pub record KeepsCourse (entries : List EntryView) (k : ℕ) (old new : Sight) : Type 0 where
   pub same : IsSamePass old.pass new.pass
-  pub keeps : KeepsAll new.standing
+  pub keeps : KeepsUnlessSpent new.standing
   pub some : ActsSome entries k old new
 
-pub course_begins : (entries : List EntryView) (k : ℕ) (now : Sight) → HasCursor now.pass k None → KeepsAll now.standing → KeepsCourse entries k now now
+pub course_begins : (entries : List EntryView) (k : ℕ) (now : Sight) → HasCursor now.pass k None → KeepsUnlessSpent now.standing → KeepsCourse entries k now now
 course_begins entries k now cursor keeps = record {
   same = refl;
   keeps = keeps;
   some = record { turns = []; does = does_none k now; rows = tt; cursor = cursor };
 }
 
-pub course_goes_on : (law : RowsStay) (entries : List EntryView) (k : ℕ) (a b c : Sight) → KeepsCourse entries k a b → IsSamePass b.pass c.pass → KeepsAll c.standing
+pub course_goes_on : (law : RowsStay) (entries : List EntryView) (k : ℕ) (a b c : Sight) → KeepsCourse entries k a b → IsSamePass b.pass c.pass → KeepsUnlessSpent c.standing
     → ActsSome entries k b c → KeepsCourse entries k a c
 course_goes_on law entries k a b c so_far same keeps step = record {
   same = same_then a.pass b.pass c.pass so_far.same same;

@@ -10,7 +10,7 @@ use Rattle.ldm_actions.specs.declared.answers.Begun.{Begun}
 use Rattle.ldm_actions.specs.declared.answers.Done.{Done}
 use Rattle.ldm_actions.specs.declared.answers.Done.TheVariants as done
 use Rattle.ldm_actions.specs.Effects.{Action, InHand, in_hand}
-use Rattle.ldm_actions.specs.Outputs.{Begins, Finishes, Gives, HasHand, KeepsAll, Standing}
+use Rattle.ldm_actions.specs.Outputs.{Begins, Finishes, Gives, HasHand, KeepsUnlessSpent, Standing}
 use Rattle.ldm_pqact.specs.declared.end.ActEnd.{ActEnd}
 use Rattle.ldm_pqact.specs.declared.end.ActEnd.TheVariants as end
 use Rattle.ldm_pqact.specs.declared.holding.Holding.{Holding}
@@ -130,11 +130,11 @@ does_nothing it now holds = record { does = λ log. does_none it.holding.reader.
 -- what was chosen in front was done, and this is left
 pub record KeepsChosen (holding : Holding) (all rest : List Chosen) (old new : Lent) : Type 0 where
   pub same : IsSamePass old.pass new.pass
-  pub keeps : KeepsAll new.standing
+  pub keeps : KeepsUnlessSpent new.standing
   pub does : (body : List ℕ) → IsHeld old.pass holding body
       → (deeds : List Deed) × (deeds ++ deeds_by body rest ≡ deeds_by body all) × DoesHeld (bodied holding body) deeds old new
 
-pub chosen_begins : (holding : Holding) (all rest : List Chosen) (now : Lent) → rest ≡ all → KeepsAll now.standing → KeepsChosen holding all rest now now
+pub chosen_begins : (holding : Holding) (all rest : List Chosen) (now : Lent) → rest ≡ all → KeepsUnlessSpent now.standing → KeepsChosen holding all rest now now
 chosen_begins holding all rest now is keeps = record {
   same = refl;
   keeps = keeps;
@@ -143,7 +143,7 @@ chosen_begins holding all rest now is keeps = record {
 
 -- one more was done
 pub chosen_goes_on : (holding : Holding) (all rest : List Chosen) (it : Chosen) (a b c : Lent) → KeepsChosen holding all (it ∷ rest) a b → IsSamePass b.pass c.pass
-    → KeepsAll c.standing → ((body : List ℕ) → IsHeld b.pass holding body → DoesHeld (bodied holding body) (deed_by body it.decision) b c)
+    → KeepsUnlessSpent c.standing → ((body : List ℕ) → IsHeld b.pass holding body → DoesHeld (bodied holding body) (deed_by body it.decision) b c)
     → KeepsChosen holding all rest a c
 chosen_goes_on holding all rest it a b c so_far same keeps step = record {
   same = same_then a.pass b.pass c.pass so_far.same same;

@@ -6,7 +6,7 @@ use Rattle.ldm_shared.specs.Passes.{IsSamePass}
 use Rattle.ldm_actions.specs.declared.answers.Done.{Done}
 use Rattle.ldm_actions.specs.declared.answers.Done.TheVariants as done
 use Rattle.ldm_actions.specs.Effects.{InHand}
-use Rattle.ldm_actions.specs.Outputs.{Gives, HasInHand, KeepsAll}
+use Rattle.ldm_actions.specs.Outputs.{Gives, HasInHand, KeepsUnlessSpent}
 use Rattle.ldm_pqact.specs.declared.end.ActEnd.{ActEnd}
 use Rattle.ldm_pqact.specs.declared.holding.Holding.{Holding}
 use Rattle.ldm_pqact.specs.Handling.{GivesAll, GivesPart, Giving, IsHeld, Lent, Reads, ReadsAll, ReadsPart, done_result, giving_of}
@@ -59,12 +59,12 @@ part_of_rest why it len rest old new part = record {
 -- the pieces in front of an offset were given
 pub record KeepsBody (holding : Holding) (offset : ℕ) (old new : Lent) : Type 0 where
   pub same : IsSamePass old.pass new.pass
-  pub keeps : KeepsAll new.standing
+  pub keeps : KeepsUnlessSpent new.standing
   pub inside : offset ≤ holding.held.info.size
   pub reads : (hand : InHand) (body : List ℕ) → IsHeld old.pass holding body → HasInHand (Some hand) old.standing
       → ReadsAll (giving_of holding body hand) (take offset body) old new
 
-pub body_begins : (holding : Holding) (now : Lent) → KeepsAll now.standing → KeepsBody holding 0 now now
+pub body_begins : (holding : Holding) (now : Lent) → KeepsUnlessSpent now.standing → KeepsBody holding 0 now now
 body_begins holding now keeps = record {
   same = refl;
   keeps = keeps;
@@ -72,7 +72,7 @@ body_begins holding now keeps = record {
   reads = λ hand body holds has. record { uses = uses_none holding.reader.k now.pass; holds = holds; gives = gives_nothing hand now.standing has };
 }
 
-pub body_goes_on : (holding : Holding) (offset len : ℕ) (a b c : Lent) → KeepsBody holding offset a b → IsSamePass b.pass c.pass → KeepsAll c.standing
+pub body_goes_on : (holding : Holding) (offset len : ℕ) (a b c : Lent) → KeepsBody holding offset a b → IsSamePass b.pass c.pass → KeepsUnlessSpent c.standing
     → offset + len ≤ holding.held.info.size
     → ((hand : InHand) (body : List ℕ) → IsHeld b.pass holding body → HasInHand (Some hand) b.standing
     → ReadsAll (giving_of holding body hand) (take len (drop offset body)) b c) → KeepsBody holding (offset + len) a c

@@ -11,7 +11,7 @@ use Rattle.ldm_session.specs.Exchange.{IdledAll}
 use Rattle.ldm_session.proofs.CallerLemmas.{IdledAll-one, IdledAll-then}
 use Rattle.ldm_shared.proofs.Using.{RowsStay, rows_then, same_then}
 use Rattle.ldm_pqact_conf.specs.Entries.{EntryView}
-use Rattle.ldm_actions.specs.Outputs.{KeepsAll}
+use Rattle.ldm_actions.specs.Outputs.{KeepsUnlessSpent}
 use Rattle.ldm_pqact.specs.declared.end.ActEnd.{ActEnd}
 use Rattle.ldm_pqact.specs.declared.end.ActEnd.TheVariants as end
 use Rattle.ldm_pqact.specs.Acting.{ActsOn, Does, Run, Sight, last_answer, parted_of}
@@ -29,14 +29,14 @@ flat_map-one_more {B = B} f xs x = flat_map-append f xs (x ∷ []) ∙ ap (λ (y
 -- the stretches so far: behind each the gate said to go on
 pub record KeepsStretches (entries : List EntryView) (k : ℕ) (old new : Gated) : Type 0 where
   pub same : IsSamePass old.sight.pass new.sight.pass
-  pub keeps : KeepsAll new.sight.standing
+  pub keeps : KeepsUnlessSpent new.sight.standing
   pub stretches : List Stretch
   pub does : Does k (work_in entries stretches) old.sight new.sight
   pub rows : AreRows new.sight.pass (products_of (turns_in stretches))
   pub idled : IdledAll (map (λ (stretch : Stretch). go.On) stretches) old.gate new.gate
   pub cursor : HasCursor new.sight.pass k None
 
-pub stretches_begin : (entries : List EntryView) (k : ℕ) (now : Sight) (gate : GateRecord) → HasCursor now.pass k None → KeepsAll now.standing
+pub stretches_begin : (entries : List EntryView) (k : ℕ) (now : Sight) (gate : GateRecord) → HasCursor now.pass k None → KeepsUnlessSpent now.standing
     → KeepsStretches entries k (gated_of now gate) (gated_of now gate)
 stretches_begin entries k now gate cursor keeps = record {
   same = refl;
@@ -71,7 +71,7 @@ module _ (law : RowsStay) (entries : List EntryView) (k : ℕ) (a b c : Gated) (
   }
 
   -- one more came to the end of the queue
-  pub stretches_go_on : ActsOn end.Stopped entries k b.sight c.sight → Idles go.On b.gate c.gate → IsSamePass b.sight.pass c.sight.pass → KeepsAll c.sight.standing
+  pub stretches_go_on : ActsOn end.Stopped entries k b.sight c.sight → Idles go.On b.gate c.gate → IsSamePass b.sight.pass c.sight.pass → KeepsUnlessSpent c.sight.standing
       → KeepsStretches entries k a c
   stretches_go_on acts idled same keeps =
       let run = acts.run in

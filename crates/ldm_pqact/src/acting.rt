@@ -3,7 +3,7 @@ ghost use Rattle.std.specs.Prelude.{◌≡◌, None};
 ghost use Rattle.ldm_model.specs.declared.event.Reply.TheVariants as reply;
 ghost use Rattle.ldm_shared.specs.Passes.{Grows, IsPassOf, IsSamePass, PassView};
 ghost use Rattle.ldm_shared.specs.Reader.{HasCursor};
-ghost use Rattle.ldm_actions.specs.Outputs.{KeepsAll, no_outputs, standing};
+ghost use Rattle.ldm_actions.specs.Outputs.{KeepsUnlessSpent, no_outputs, standing};
 ghost use Rattle.ldm_pqact.specs.Acted.{Acts, ActsOpened, KeepsActCounts, end_after, opening, situation_of};
 ghost use Rattle.ldm_pqact.specs.Acting.{sight_of};
 ghost use Rattle.ldm_pqact.specs.Complete.{ActCompletes};
@@ -42,10 +42,10 @@ impl Follower {
     ) -> ActEnd
         requires of { IsPassOf shared.now pass.old }
         requires cursor { HasCursor pass.old self.old.reader.k None }
-        requires keeps { KeepsAll (standing self.old.pqact.outputs (F.tells store.old) (L.tells launcher.old)) }
+        requires keeps { KeepsUnlessSpent (standing self.old.pqact.outputs (F.tells store.old) (L.tells launcher.old)) }
         ensures kept { IsSamePass pass.old pass.new }
         ensures reader { self.new.reader ≡ self.old.reader }
-        ensures keeps { KeepsAll (standing self.new.pqact.outputs (F.tells store.new) (L.tells launcher.new)) }
+        ensures keeps { KeepsUnlessSpent (standing self.new.pqact.outputs (F.tells store.new) (L.tells launcher.new)) }
         ensures follows { Follows result self.old.pqact.entries self.old.reader.k
             (gated_of (sight_of pass.old
             (standing self.old.pqact.outputs (F.tells store.old) (L.tells launcher.old)) (E.tells log.old))
@@ -85,7 +85,7 @@ impl Follower {
         requires of { IsPassOf shared.now pass.old }
         requires cursor { HasCursor pass.old self.old.reader.k None }
         requires outputs { self.old.pqact.outputs ≡ no_outputs }
-        requires keeps { KeepsAll (standing self.old.pqact.outputs (F.tells store.old) (L.tells launcher.old)) }
+        requires keeps { KeepsUnlessSpent (standing self.old.pqact.outputs (F.tells store.old) (L.tells launcher.old)) }
         ensures acts { (first : PassView) → Grows first pass.old opening (reply.Opened self.old.reader.k)
             → ActsOpened result self.old.pqact.entries
             (situation_of first (F.tells store.old) (L.tells launcher.old) (E.tells log.old) (G.tells gate.old))

@@ -3,7 +3,7 @@ ghost use Rattle.std.specs.Prelude.{◌+◌, ◌<◌, ◌≤◌, ℕ, IfOk, List
 ghost use Rattle.std.specs.Vec.{vec_capacity};
 ghost use Rattle.ldm_shared.specs.Passes.{IsPassOf, IsSamePass};
 ghost use Rattle.ldm_actions.specs.Effects.{InHand};
-ghost use Rattle.ldm_actions.specs.Outputs.{HasInHand, KeepsAll, standing};
+ghost use Rattle.ldm_actions.specs.Outputs.{HasInHand, KeepsUnlessSpent, standing};
 ghost use Rattle.ldm_pqact.specs.declared.limits.TheConstants.{LARGEST_PIECE};
 ghost use Rattle.ldm_pqact.specs.Handling.{IsHeld, Reads, ReadsPiece, giving_of, lent};
 
@@ -31,12 +31,12 @@ impl Writer {
         requires holds { (body : List ℕ) × IsHeld pass.old holding.now body }
         requires room { LARGEST_PIECE ≤ vec_capacity self.old.buffer }
         requires within { offset < holding.now.held.info.size }
-        requires keeps { KeepsAll (standing self.old.outputs (F.tells store.old) (L.tells launcher.old)) }
+        requires keeps { KeepsUnlessSpent (standing self.old.outputs (F.tells store.old) (L.tells launcher.old)) }
         requires in_hand { (hand : InHand)
             × HasInHand (Some hand) (standing self.old.outputs (F.tells store.old) (L.tells launcher.old)) }
         ensures kept { IsSamePass pass.old pass.new }
         ensures room { LARGEST_PIECE ≤ vec_capacity self.new.buffer }
-        ensures keeps { KeepsAll (standing self.new.outputs (F.tells store.new) (L.tells launcher.new)) }
+        ensures keeps { KeepsUnlessSpent (standing self.new.outputs (F.tells store.new) (L.tells launcher.new)) }
         ensures some { IfOk result (λ len. 0 < len) }
         ensures within { IfOk result (λ len. offset + len ≤ holding.now.held.info.size) }
         ensures reads { (hand : InHand) (body : List ℕ) → IsHeld pass.old holding.now body
@@ -76,12 +76,12 @@ impl Writer {
         requires of { IsPassOf shared.now pass.old }
         requires holds { (body : List ℕ) × IsHeld pass.old holding.now body }
         requires room { LARGEST_PIECE ≤ vec_capacity self.old.buffer }
-        requires keeps { KeepsAll (standing self.old.outputs (F.tells store.old) (L.tells launcher.old)) }
+        requires keeps { KeepsUnlessSpent (standing self.old.outputs (F.tells store.old) (L.tells launcher.old)) }
         requires in_hand { (hand : InHand)
             × HasInHand (Some hand) (standing self.old.outputs (F.tells store.old) (L.tells launcher.old)) }
         ensures kept { IsSamePass pass.old pass.new }
         ensures room { LARGEST_PIECE ≤ vec_capacity self.new.buffer }
-        ensures keeps { KeepsAll (standing self.new.outputs (F.tells store.new) (L.tells launcher.new)) }
+        ensures keeps { KeepsUnlessSpent (standing self.new.outputs (F.tells store.new) (L.tells launcher.new)) }
         ensures reads { (hand : InHand) (body : List ℕ) → IsHeld pass.old holding.now body
             → HasInHand (Some hand) (standing self.old.outputs (F.tells store.old) (L.tells launcher.old))
             → Reads result (giving_of holding.now body hand) body

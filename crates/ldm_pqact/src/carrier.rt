@@ -2,7 +2,7 @@
 
 use crate::writer::Writer;
 use ldm_outside::Reason;
-use ldm_pqact_match::Chooser;
+use ldm_pqact_conf::Entries;
 use ldm_types::Signature;
 use std::alloc::Global;
 
@@ -10,7 +10,7 @@ use std::alloc::Global;
 #[derive(Drop)]
 pub(crate) struct Carrier {
     pub(crate) alloc: Global,
-    pub(crate) entries: Chooser,
+    pub(crate) entries: Entries,
     pub(crate) writer: Writer,
     // How many products are left to be given, where there is a count.
     pub(crate) left: Option<u64>,

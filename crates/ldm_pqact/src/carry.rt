@@ -3,7 +3,7 @@ ghost use Rattle.std.specs.Prelude.{◌≡◌, ◌≤◌, ℕ, List, [], ◌∷�
 ghost use Rattle.std.specs.Vec.{vec_capacity};
 ghost use Rattle.ldm_shared.specs.Passes.{IsPassOf, IsSamePass};
 ghost use Rattle.ldm_actions.specs.Hands.{action_of};
-ghost use Rattle.ldm_actions.specs.Outputs.{KeepsAll, standing};
+ghost use Rattle.ldm_actions.specs.Outputs.{KeepsUnlessSpent, standing};
 ghost use Rattle.ldm_pqact.specs.declared.limits.TheConstants.{LARGEST_PIECE};
 ghost use Rattle.ldm_pqact.specs.Handling.{DoesAll, IsHeld, bodied, lent, takes_body};
 ghost use Rattle.ldm_pqact.specs.Turns.{deed_by, deeds_by};
@@ -43,10 +43,10 @@ impl Writer {
         requires of { IsPassOf shared.now pass.old }
         requires holds { (body : List ℕ) × IsHeld pass.old holding.now body }
         requires room { LARGEST_PIECE ≤ vec_capacity self.old.buffer }
-        requires keeps { KeepsAll (standing self.old.outputs (F.tells store.old) (L.tells launcher.old)) }
+        requires keeps { KeepsUnlessSpent (standing self.old.outputs (F.tells store.old) (L.tells launcher.old)) }
         ensures kept { IsSamePass pass.old pass.new }
         ensures room { LARGEST_PIECE ≤ vec_capacity self.new.buffer }
-        ensures keeps { KeepsAll (standing self.new.outputs (F.tells store.new) (L.tells launcher.new)) }
+        ensures keeps { KeepsUnlessSpent (standing self.new.outputs (F.tells store.new) (L.tells launcher.new)) }
         ensures does { (body : List ℕ) → IsHeld pass.old holding.now body
             → DoesAll result (bodied holding.now body) ((action_of action.now, body) ∷ [])
             (lent pass.old (standing self.old.outputs (F.tells store.old) (L.tells launcher.old)))
@@ -73,10 +73,10 @@ impl Writer {
         requires of { IsPassOf shared.now pass.old }
         requires holds { (body : List ℕ) × IsHeld pass.old holding.now body }
         requires room { LARGEST_PIECE ≤ vec_capacity self.old.buffer }
-        requires keeps { KeepsAll (standing self.old.outputs (F.tells store.old) (L.tells launcher.old)) }
+        requires keeps { KeepsUnlessSpent (standing self.old.outputs (F.tells store.old) (L.tells launcher.old)) }
         ensures kept { IsSamePass pass.old pass.new }
         ensures room { LARGEST_PIECE ≤ vec_capacity self.new.buffer }
-        ensures keeps { KeepsAll (standing self.new.outputs (F.tells store.new) (L.tells launcher.new)) }
+        ensures keeps { KeepsUnlessSpent (standing self.new.outputs (F.tells store.new) (L.tells launcher.new)) }
         ensures does { (body : List ℕ) → IsHeld pass.old holding.now body
             → DoesAll result (bodied holding.now body) (deed_by body decision)
             (lent pass.old (standing self.old.outputs (F.tells store.old) (L.tells launcher.old)))
@@ -106,10 +106,10 @@ impl Writer {
         requires of { IsPassOf shared.now pass.old }
         requires holds { (body : List ℕ) × IsHeld pass.old holding.now body }
         requires room { LARGEST_PIECE ≤ vec_capacity self.old.buffer }
-        requires keeps { KeepsAll (standing self.old.outputs (F.tells store.old) (L.tells launcher.old)) }
+        requires keeps { KeepsUnlessSpent (standing self.old.outputs (F.tells store.old) (L.tells launcher.old)) }
         ensures kept { IsSamePass pass.old pass.new }
         ensures room { LARGEST_PIECE ≤ vec_capacity self.new.buffer }
-        ensures keeps { KeepsAll (standing self.new.outputs (F.tells store.new) (L.tells launcher.new)) }
+        ensures keeps { KeepsUnlessSpent (standing self.new.outputs (F.tells store.new) (L.tells launcher.new)) }
         ensures does { (body : List ℕ) → IsHeld pass.old holding.now body
             → DoesAll result (bodied holding.now body) (deeds_by body chosen.items)
             (lent pass.old (standing self.old.outputs (F.tells store.old) (L.tells launcher.old)))

@@ -3,7 +3,7 @@ ghost use Rattle.std.specs.Prelude.{◌≡◌, ◌∷◌, [], IfOk, None};
 ghost use Rattle.ldm_outside.specs.Reason.{IsReason};
 ghost use Rattle.ldm_shared.specs.Passes.{IsPassOf, IsSamePass};
 ghost use Rattle.ldm_shared.specs.Reader.{HasCursor};
-ghost use Rattle.ldm_actions.specs.Outputs.{Closes, KeepsOfAny, KeepsAll, no_outputs, standing};
+ghost use Rattle.ldm_actions.specs.Outputs.{Closes, KeepsOfAny, KeepsUnlessSpent, no_outputs, standing};
 ghost use Rattle.ldm_actions.specs.Hands.{action_of};
 ghost use Rattle.ldm_pqact.specs.Acting.{ActsOn, sight_of};
 ghost use Rattle.ldm_pqact.specs.Carried.{DoesBy};
@@ -19,7 +19,6 @@ use crate::writer::{Writer, act_with};
 use ldm_actions::{Action, Done, Outputs};
 use ldm_outside::{Launcher, Reason, Sink, Store};
 use ldm_pqact_conf::Entries;
-use ldm_pqact_match::Chooser;
 use ldm_shared::{Pass, Reader, Shared};
 use ldm_types::{OutOfMemory, Signature};
 use std::alloc::Global;
@@ -62,7 +61,7 @@ impl Pqact {
         };
         let carrier = Carrier {
             alloc,
-            entries: Chooser::create(alloc, entries)?,
+            entries,
             writer,
             left: None,
             last: None,
@@ -113,10 +112,10 @@ impl Pqact {
     ) -> ActEnd
         requires of { IsPassOf shared.now pass.old }
         requires cursor { HasCursor pass.old reader.now.k None }
-        requires keeps { KeepsAll (standing self.old.outputs (F.tells store.old) (L.tells launcher.old)) }
+        requires keeps { KeepsUnlessSpent (standing self.old.outputs (F.tells store.old) (L.tells launcher.old)) }
         ensures kept { IsSamePass pass.old pass.new }
         ensures entries { self.new.entries ≡ self.old.entries }
-        ensures keeps { KeepsAll (standing self.new.outputs (F.tells store.new) (L.tells launcher.new)) }
+        ensures keeps { KeepsUnlessSpent (standing self.new.outputs (F.tells store.new) (L.tells launcher.new)) }
         // Each product that the cursor gave was counted off.
         ensures counts { CountsGiven pass.old pass.new self.old.left self.new.left }
         // The last product is that of this call.
@@ -145,9 +144,9 @@ impl Pqact {
         action: &Action,
         bytes: &[u8],
     ) -> ActEnd
-        requires { KeepsAll (standing self.old.outputs (F.tells store.old) (L.tells launcher.old)) }
+        requires { KeepsUnlessSpent (standing self.old.outputs (F.tells store.old) (L.tells launcher.old)) }
         ensures others { self.new ≡ record self.old { outputs = self.new.outputs } }
-        ensures keeps { KeepsAll (standing self.new.outputs (F.tells store.new) (L.tells launcher.new)) }
+        ensures keeps { KeepsUnlessSpent (standing self.new.outputs (F.tells store.new) (L.tells launcher.new)) }
         ensures does { DoesBy result ((action_of action.now, bytes.now) ∷ [])
             (standing self.old.outputs (F.tells store.old) (L.tells launcher.old))
             (standing self.new.outputs (F.tells store.new) (L.tells launcher.new)) }
@@ -171,14 +170,14 @@ impl Pqact {
 
     /// Shuts all files, and then shuts the input of each program and waits for it: the longest unused first.
     pub fn close<F: Store, L: Launcher>(&mut self, store: &mut F, launcher: &mut L) -> Done
-        requires { KeepsAll (standing self.old.outputs (F.tells store.old) (L.tells launcher.old)) }
+        requires { KeepsUnlessSpent (standing self.old.outputs (F.tells store.old) (L.tells launcher.old)) }
         ensures entries { self.new.entries ≡ self.old.entries }
         ensures left { self.new.left ≡ self.old.left }
         ensures last { self.new.last ≡ self.old.last }
         ensures closed { Closes result
             (standing self.old.outputs (F.tells store.old) (L.tells launcher.old))
             (standing self.new.outputs (F.tells store.new) (L.tells launcher.new)) }
-        ensures keeps { KeepsAll (standing self.new.outputs (F.tells store.new) (L.tells launcher.new)) }
+        ensures keeps { KeepsUnlessSpent (standing self.new.outputs (F.tells store.new) (L.tells launcher.new)) }
     {
         self.carrier.writer.outputs.close_all(store, launcher)
     }

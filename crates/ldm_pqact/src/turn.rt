@@ -3,7 +3,7 @@ ghost use Rattle.std.specs.Prelude.{◌≡◌, ◌≤◌, None};
 ghost use Rattle.std.specs.Vec.{vec_capacity};
 ghost use Rattle.ldm_shared.specs.Passes.{IsPassOf, IsSamePass};
 ghost use Rattle.ldm_shared.specs.Reader.{HasCursor};
-ghost use Rattle.ldm_actions.specs.Outputs.{KeepsAll, standing};
+ghost use Rattle.ldm_actions.specs.Outputs.{KeepsUnlessSpent, standing};
 ghost use Rattle.ldm_pqact.specs.declared.limits.TheConstants.{LARGEST_PIECE};
 ghost use Rattle.ldm_pqact.specs.Acting.{TurnsBy, sight_of};
 ghost use Rattle.ldm_pqact.specs.Lasting.{LastGiven};
@@ -35,12 +35,12 @@ impl Carrier {
         requires of { IsPassOf shared.now pass.old }
         requires cursor { HasCursor pass.old reader.now.k None }
         requires room { LARGEST_PIECE ≤ vec_capacity self.old.writer.buffer }
-        requires keeps { KeepsAll
+        requires keeps { KeepsUnlessSpent
             (standing self.old.writer.outputs (F.tells store.old) (L.tells launcher.old)) }
         ensures kept { IsSamePass pass.old pass.new }
         ensures entries { self.new.entries ≡ self.old.entries }
         ensures room { LARGEST_PIECE ≤ vec_capacity self.new.writer.buffer }
-        ensures keeps { KeepsAll
+        ensures keeps { KeepsUnlessSpent
             (standing self.new.writer.outputs (F.tells store.new) (L.tells launcher.new)) }
         ensures counts { CountsGiven pass.old pass.new self.old.left self.new.left }
         ensures last { LastGiven pass.old pass.new (signature_of self.old.last) (signature_of self.new.last) }

@@ -1,7 +1,7 @@
 //! What the outputs are given bodies by.
 ghost use Rattle.std.specs.Prelude.{◌∷◌, []};
 ghost use Rattle.ldm_actions.specs.Hands.{action_of};
-ghost use Rattle.ldm_actions.specs.Outputs.{KeepsAll, standing};
+ghost use Rattle.ldm_actions.specs.Outputs.{KeepsUnlessSpent, standing};
 ghost use Rattle.ldm_pqact.specs.Carried.{DoesBy};
 ghost use Rattle.ldm_pqact.specs.Handling.{ActsWith};
 
@@ -24,8 +24,8 @@ pub fn act_with<F: Store, L: Launcher>(
     action: &Action,
     bytes: &[u8],
 ) -> ActEnd
-    requires { KeepsAll (standing outputs.old (F.tells store.old) (L.tells launcher.old)) }
-    ensures keeps { KeepsAll (standing outputs.new (F.tells store.new) (L.tells launcher.new)) }
+    requires { KeepsUnlessSpent (standing outputs.old (F.tells store.old) (L.tells launcher.old)) }
+    ensures keeps { KeepsUnlessSpent (standing outputs.new (F.tells store.new) (L.tells launcher.new)) }
     ensures does { DoesBy result ((action_of action.now, bytes.now) ∷ [])
         (standing outputs.old (F.tells store.old) (L.tells launcher.old))
         (standing outputs.new (F.tells store.new) (L.tells launcher.new)) }
@@ -43,8 +43,8 @@ fn try_with<F: Store, L: Launcher>(
     action: &Action,
     bytes: &[u8],
 ) -> Result<(), ActEnd>
-    requires { KeepsAll (standing outputs.old (F.tells store.old) (L.tells launcher.old)) }
-    ensures keeps { KeepsAll (standing outputs.new (F.tells store.new) (L.tells launcher.new)) }
+    requires { KeepsUnlessSpent (standing outputs.old (F.tells store.old) (L.tells launcher.old)) }
+    ensures keeps { KeepsUnlessSpent (standing outputs.new (F.tells store.new) (L.tells launcher.new)) }
     ensures does { ActsWith result (action_of action.now) bytes.now
         (standing outputs.old (F.tells store.old) (L.tells launcher.old))
         (standing outputs.new (F.tells store.new) (L.tells launcher.new)) }

@@ -11,7 +11,7 @@ use Rattle.ldm_actions.specs.declared.answers.Done.TheVariants as done
 use Rattle.ldm_actions.specs.declared.answers.Fault.{Fault}
 use Rattle.ldm_actions.specs.declared.answers.Fault.TheVariants as fault
 use Rattle.ldm_actions.specs.Effects.{Action}
-use Rattle.ldm_actions.specs.Outputs.{Closes, ClosesBy, KeepsAll, Standing, standing}
+use Rattle.ldm_actions.specs.Outputs.{Closes, ClosesBy, KeepsUnlessSpent, Standing, standing}
 use Rattle.ldm_intake.specs.Receiving.{Receiving}
 use Rattle.ldm_gather.specs.declared.end.GatherEnd.{GatherEnd}
 use Rattle.ldm_gather.specs.declared.end.GatherEnd.TheVariants as gather_end
@@ -139,7 +139,7 @@ module _ {F L : Type 0} (store_tells : F → StoreRecord) (launcher_tells : L �
   -- no count fell, and what is kept is of this store and launcher still
   pub record Stays (old new : Side) : Type 0 where
     pub counted : Counted (at old) (at new)
-    pub keeps : KeepsAll (at old) → KeepsAll (at new)
+    pub keeps : KeepsUnlessSpent (at old) → KeepsUnlessSpent (at new)
 
   stays_same : (side : Side) → Stays side side
   stays_same side = record { counted = record { store = omega arith; launcher = omega arith }; keeps = λ keeps. keeps }

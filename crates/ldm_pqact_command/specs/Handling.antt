@@ -3,7 +3,7 @@ use Rattle.std.specs.Prelude.{◌≡◌, ℕ, ◌<◌, Option, Some, None}
 use Rattle.std.specs.Option.{ForSome}
 use Rattle.ldm_outside.specs.Launcher.{LauncherRecord}
 use Rattle.ldm_outside.specs.Store.{StoreRecord}
-use Rattle.ldm_actions.specs.Outputs.{KeepsAll, Standing, standing}
+use Rattle.ldm_actions.specs.Outputs.{KeepsUnlessSpent, Standing, standing}
 use Rattle.ldm_gather.specs.declared.end.Handled.{Handled}
 use Rattle.ldm_gather.specs.declared.end.Handled.TheVariants.{On, Enough, Stopped}
 use Rattle.ldm_gather.specs.Scene.{Scene}
@@ -37,7 +37,7 @@ module _ {F L : Type 0} (store_tells : F → StoreRecord) (launcher_tells : L �
   -- It did not stop, and what its outputs keep is of this store and launcher.
   pub record ActBegins (acter : ActerView) (store : F) (launcher : L) : Type 0 where
     pub goes : acter.why ≡ None
-    pub keeps : KeepsAll (standing_in acter store launcher)
+    pub keeps : KeepsUnlessSpent (standing_in acter store launcher)
 
   -- The entries acted on what the cursor gave, up to an end of that; and where that is the end of the queue, the state of the last product is
   -- written, if one is kept and a product was given. Each product that the cursor gave was counted off, and by what is left then it goes on, or
@@ -55,6 +55,6 @@ module _ {F L : Type 0} (store_tells : F → StoreRecord) (launcher_tells : L �
     pub ends : EndsFor answer new.handler.why ended
     pub counts : CountsGiven old.pass new.pass old.handler.left new.handler.left
     pub leaves : Leaves answer new.handler.left
-    pub keeps : KeepsAll (standing_in new.handler new.first new.second)
+    pub keeps : KeepsUnlessSpent (standing_in new.handler new.first new.second)
     pub others : new.handler
         ≡ record old.handler { left = new.handler.left; outputs = new.handler.outputs; last = new.handler.last; why = new.handler.why }

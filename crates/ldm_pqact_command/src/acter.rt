@@ -36,7 +36,7 @@ impl Model for Acter {
 }
 
 impl Acter {
-    ghost use Rattle.ldm_actions.specs.Outputs.{KeepsAll, standing};
+    ghost use Rattle.ldm_actions.specs.Outputs.{KeepsUnlessSpent, standing};
     ghost use Rattle.ldm_gather.specs.declared.end.GatherEnd.TheVariants as gather_end;
     ghost use Rattle.ldm_pqact.specs.declared.end.ActEnd.TheVariants as act_end;
     ghost use Rattle.ldm_pqact_command.specs.Closing.{ClosesOutputs};
@@ -86,7 +86,7 @@ impl Acter {
     /// Shuts all files, and then shuts the input of each program and waits for it. Outputs that are spent touch nothing
     /// more, and answer their fault again.
     pub fn close<F: Store, L: Launcher>(&mut self, store: &mut F, launcher: &mut L) -> Done
-        requires { KeepsAll (standing self.old.outputs (F.tells store.old) (L.tells launcher.old)) }
+        requires { KeepsUnlessSpent (standing self.old.outputs (F.tells store.old) (L.tells launcher.old)) }
         ensures others { self.new ≡ record self.old { outputs = self.new.outputs } }
         ensures closed { ClosesOutputs result (standing self.old.outputs (F.tells store.old) (L.tells launcher.old))
             (F.tells store.new) (L.tells launcher.new) }
@@ -96,9 +96,9 @@ impl Acter {
 
     // Writes the state of the last product, where one is kept and a product was given.
     fn keep_state<F: Store, L: Launcher>(&mut self, store: &mut F, launcher: &mut L) -> ActEnd
-        requires { KeepsAll (standing self.old.outputs (F.tells store.old) (L.tells launcher.old)) }
+        requires { KeepsUnlessSpent (standing self.old.outputs (F.tells store.old) (L.tells launcher.old)) }
         ensures others { self.new ≡ record self.old { outputs = self.new.outputs } }
-        ensures keeps { KeepsAll (standing self.new.outputs (F.tells store.new) (L.tells launcher.new)) }
+        ensures keeps { KeepsUnlessSpent (standing self.new.outputs (F.tells store.new) (L.tells launcher.new)) }
         ensures state { KeepsState act_end.Stopped result (state_deeds self.old.state self.old.last)
             (standing self.old.outputs (F.tells store.old) (L.tells launcher.old))
             (standing self.new.outputs (F.tells store.new) (L.tells launcher.new)) }
@@ -121,7 +121,7 @@ impl Acter {
         store: &mut F,
         launcher: &mut L,
     )
-        requires { KeepsAll (standing spare (F.tells store.old) (L.tells launcher.old)) }
+        requires { KeepsUnlessSpent (standing spare (F.tells store.old) (L.tells launcher.old)) }
         ensures { KeepsLast gather_end.Stopped (state_deeds self.now.state self.now.last)
             (standing spare (F.tells store.old) (L.tells launcher.old)) (F.tells store.new)
             (L.tells launcher.new) }

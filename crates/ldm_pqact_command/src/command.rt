@@ -3,7 +3,7 @@ ghost use Rattle.std.specs.Prelude.{◌≡◌, ◌≤◌, ◌⊎◌, false, IfEr
 ghost use Rattle.std.specs.Option.{option_copied};
 ghost use Rattle.ldm_shared.specs.declared.fault.CreateFault.TheVariants as fault;
 ghost use Rattle.ldm_shared.specs.Limits.{IsFaultOf};
-ghost use Rattle.ldm_actions.specs.Outputs.{KeepsOfAny, KeepsAll, no_outputs, standing};
+ghost use Rattle.ldm_actions.specs.Outputs.{KeepsOfAny, KeepsUnlessSpent, no_outputs, standing};
 ghost use Rattle.ldm_gather.specs.declared.limits.TheConstants.{PASSES};
 ghost use Rattle.ldm_gather.specs.Orders.{order_view, usual_order};
 ghost use Rattle.ldm_gather.specs.Queue.{IsOpen, Opens};
@@ -387,7 +387,7 @@ fn close<F: Store, L: Launcher>(
     store: &mut F,
     launcher: &mut L,
 ) -> Ended
-    requires keeps { KeepsAll (standing_in F.tells L.tells acter store.old launcher.old) }
+    requires keeps { KeepsUnlessSpent (standing_in F.tells L.tells acter store.old launcher.old) }
     requires why { IfStopped end (IsSome acter.why) }
     requires spare { spare ≡ no_outputs }
     requires spare_keeps { KeepsOfAny spare }

@@ -2,7 +2,7 @@
 ghost use Rattle.std.specs.Prelude.{◌≡◌, ◌≢◌, ◌≤◌, IfOk, Some, string_bytes};
 ghost use Rattle.std.specs.Option.{option_map};
 ghost use Rattle.ldm_actions.specs.Hands.{action_of};
-ghost use Rattle.ldm_actions.specs.Outputs.{KeepsAll, standing};
+ghost use Rattle.ldm_actions.specs.Outputs.{KeepsUnlessSpent, standing};
 ghost use Rattle.ldm_pqact.specs.Carried.{DoesBy};
 ghost use Rattle.ldm_pqact.specs.declared.end.ActEnd.TheVariants as act_end;
 ghost use Rattle.ldm_pqact_command.specs.State.{ReadsState, TakesSpare, TakesState, spare_path, state_actions};
@@ -211,7 +211,7 @@ pub(crate) fn write_state<F: Store, L: Launcher>(
     files: &StateFiles,
     signature: &Signature,
 ) -> ActEnd
-    requires { KeepsAll (standing outputs.old (F.tells store.old) (L.tells launcher.old)) }
+    requires { KeepsUnlessSpent (standing outputs.old (F.tells store.old) (L.tells launcher.old)) }
     ensures { DoesBy result (state_deeds (Some files.now) (Some signature.now.0))
         (standing outputs.old (F.tells store.old) (L.tells launcher.old))
         (standing outputs.new (F.tells store.new) (L.tells launcher.new)) }
@@ -232,9 +232,9 @@ pub(crate) fn keep_with<F: Store, L: Launcher>(
     files: &StateFiles,
     signature: &Signature,
 ) -> ActEnd
-    requires { KeepsAll (standing pqact.old.outputs (F.tells store.old) (L.tells launcher.old)) }
+    requires { KeepsUnlessSpent (standing pqact.old.outputs (F.tells store.old) (L.tells launcher.old)) }
     ensures others { pqact.new ≡ record pqact.old { outputs = pqact.new.outputs } }
-    ensures keeps { KeepsAll (standing pqact.new.outputs (F.tells store.new) (L.tells launcher.new)) }
+    ensures keeps { KeepsUnlessSpent (standing pqact.new.outputs (F.tells store.new) (L.tells launcher.new)) }
     ensures does { DoesBy result (state_deeds (Some files.now) (Some signature.now.0))
         (standing pqact.old.outputs (F.tells store.old) (L.tells launcher.old))
         (standing pqact.new.outputs (F.tells store.new) (L.tells launcher.new)) }

@@ -71,7 +71,7 @@ fn read_pattern(alloc: Global, pattern: &[u8]) -> Result<Option<Pattern>, PqactK
     match Pattern::build(alloc, pattern) {
         Ok(built) => Ok(Some(built)),
         Err(Refusal::Meaningless) => Err(PqactKind::Pattern),
-        Err(Refusal::TooLarge | Refusal::OutOfMemory) => Err(PqactKind::OutOfMemory),
+        Err(Refusal::OutOfMemory) => Err(PqactKind::OutOfMemory),
     }
 }
 

@@ -9,4 +9,3 @@ pub mod Choices
 pub mod Nearer
 pub mod ElseEntries
 pub mod DaysAsked
-pub mod Keeping

@@ -8,5 +8,3 @@ pub mod Views
 pub mod Reading
 pub mod Choosing
 pub mod Days
-pub mod Keeping
-pub mod ChooserView

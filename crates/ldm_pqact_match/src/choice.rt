@@ -1,13 +1,10 @@
 //! The choice of the entries that act.
-ghost use Rattle.std.specs.Prelude.{◌≡◌, ◌||◌, not, is_none, true, false, IfOk};
+ghost use Rattle.std.specs.Prelude.{◌≡◌, ◌||◌, not, is_none, IfOk};
 ghost use Rattle.ldm_pqact_match.specs.Choice.{choose_of};
 ghost use Rattle.ldm_pqact_match.specs.Choosing.{IsChoice};
-ghost use Rattle.ldm_pqact_match.specs.Keeping.{IsKeptOf};
-ghost use Rattle.ldm_pqact_match.specs.Matching.{acts};
 
 use crate::chosen::{Chosen, Decision, place_number};
 use crate::decide::decide;
-use crate::keep::Keep;
 use crate::matching::groups_to_act_by;
 use crate::moment::Moment;
 use crate::sources::Sources;
@@ -28,27 +25,11 @@ pub fn choose(
 ) -> Result<Vec<Chosen>, OutOfMemory>
     ensures chosen { IfOk result (λ chosen. chosen.items ≡ choose_of entries.now info.now time) }
 {
-    choose_by(alloc, entries, &mut Keep::nothing(alloc), info, time)
-}
-
-// The same, with what is kept of the searches for these entries.
-pub(crate) fn choose_by(
-    alloc: Global,
-    entries: &Entries,
-    keep: &mut Keep,
-    info: &Info,
-    time: Micros,
-) -> Result<Vec<Chosen>, OutOfMemory>
-    requires { IsKeptOf entries.now keep.old }
-    ensures chosen { IfOk result (λ chosen. chosen.items ≡ choose_of entries.now info.now time) }
-    ensures kept { IsKeptOf entries.now keep.new }
-{
     let mut chosen = Vec::new(alloc);
     let mut matched = false;
     let all = entries.as_slice();
     for (place, entry) in all.iter().enumerate() {
-        let ruled_out = keep.rules_out(alloc, all, place, info);
-        if let Some(decision) = decision_of(alloc, entry, info, time, matched, ruled_out)? {
+        if let Some(decision) = decision_of(alloc, entry, info, time, matched)? {
             chosen.push(Chosen {
                 entry: place_number(place),
                 decision,
@@ -59,21 +40,16 @@ pub(crate) fn choose_by(
     Ok(chosen)
 }
 
-// What an entry does, by whether an earlier one matched. None where it does not act, as it may be known.
+// What an entry does, by whether an earlier one matched. None where it does not act.
 fn decision_of(
     alloc: Global,
     entry: &Entry,
     info: &Info,
     time: Micros,
     matched: bool,
-    ruled_out: bool,
 ) -> Result<Option<Decision>, OutOfMemory>
-    requires { ruled_out ≡ true → acts matched info.now entry.now ≡ false }
     ensures { IfOk result (IsChoice matched info.now time entry.now) }
 {
-    if ruled_out {
-        return Ok(None);
-    }
     let Some(groups) = groups_to_act_by(alloc, entry, info, matched)? else {
         return Ok(None);
     };

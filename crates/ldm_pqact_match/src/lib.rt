@@ -3,12 +3,10 @@
 
 mod action;
 mod choice;
-mod chooser;
 mod chosen;
 mod day;
 mod decide;
 mod forms;
-mod keep;
 mod law;
 mod matching;
 mod moment;
@@ -18,7 +16,5 @@ mod text;
 
 pub use action::Action;
 pub use choice::choose;
-pub use chooser::Chooser;
 pub use chosen::{Chosen, Decision};
-pub use keep::LARGEST_KEPT;
 pub use law::{no_date_is_no_day, worked_examples_of_days};

@@ -1,5 +1,5 @@
 -- What is committed where a queue had no more.
-use Rattle.std.proofs.Common.{◌≡◌, ℕ, ◌+◌, ◌-◌, ◌≤◌, List, [], ◌∷◌, refl, sym, ◌∙◌, subst, arith}
+use Rattle.std.proofs.Common.{◌≡◌, ℕ, ◌+◌, ◌-◌, ◌≤◌, List, [], ◌∷◌, refl, subst, arith}
 use Rattle.std.specs.Prelude.{IfSome, None, OnOk, Some, Result, Ok, Err}
 use Rattle.ldm_disk.specs.Told.{DiskRecord, IsConsistent}
 use Rattle.ldm_outside.specs.Io.{SinkRecord}
@@ -12,7 +12,7 @@ use Rattle.ldm_recorder.specs.Lines.{AreLasts, note_of, with_lasts}
 use Rattle.ldm_recorder.specs.Turns.{Who}
 use Rattle.ldm_recorder.specs.Recording.{sight_at, sight_of, who_of}
 use Rattle.ldm_recorder.specs.Saving.{Kit, SavesBy, kit_of}
-use Rattle.ldm_recorder.specs.Catching.{CommitsAt, IsIdle, IsSameButLasts}
+use Rattle.ldm_recorder.specs.Catching.{CommitsAt, IsSameButLasts}
 use Rattle.ldm_recorder.proofs.Coursing.{who_same}
 use Rattle.ldm_recorder.proofs.Keeping.{nothing_to_commit}
 use Rattle.ldm_recorder.proofs.Knowing.{but_lasts}
@@ -21,14 +21,13 @@ pub saves_next : (r : Result (Unit {0}) RecordEnd) (events : Content → List Ev
 saves_next (Ok done) events old new saves = saves.1
 saves_next (Err why) events old new saves = tt
 
--- nothing was appended, the note has what is known, and the disk was not called
-pub commits_none : (who : Who) (at : ℕ) (r : Recorder) (pass : PassView) (disk : DiskRecord) (log : SinkRecord) (lasts : List ℕ)
-    → AreLasts who.base at pass.seen who.lines lasts → r.journal.marks.note ≡ note_of (with_lasts who.lines lasts)
+-- nothing was appended, and the disk was not called
+pub commits_none : (who : Who) (at : ℕ) (r : Recorder) (pass : PassView) (disk : DiskRecord) (log : SinkRecord)
     → r.journal.marks.used + r.journal.marks.appended ≤ r.journal.marks.ring → r.journal.marks.appended ≡ 0 → IfSome disk.file IsConsistent
     → CommitsAt (Ok tt) who at (sight_of pass r disk log) (sight_of pass r disk log)
-commits_none who at r pass disk log lasts told noted sound none consistent = record {
+commits_none who at r pass disk log sound none consistent = record {
   lasts = None;
-  due = (none, (lasts, told, noted));
+  due = none;
   told = tt;
   saves = (record { made = nothing_to_commit r.journal.marks disk.file sound none consistent; ring = refl; faults = omega arith }, refl);
 }
@@ -54,15 +53,3 @@ commits_asked result at p q r s t disk disk' log of same commits =
     let mine = subst (λ (w : Who). CommitsAt result w at (sight_of q s disk log) (sight_of q t disk' log)) (who_same p q r s of (but_lasts r s same)) commits in
     let here = subst (λ (j : Journal). CommitsAt result (who_of p r) at (sight_at q j.marks disk log) (sight_of q t disk' log)) same.journal mine in
     record { lasts = here.lasts; due = here.due; told = here.told; saves = here.saves }
-
--- where the disk need not be called, it is not
-pub idle_asked : (result : Result (Unit {0}) RecordEnd) (r s t : Recorder) (old new : DiskRecord) → IsSameButLasts r s → OnOk result (IsIdle s t old new)
-    → OnOk result (IsIdle r t old new)
-idle_asked (Ok done) r s t old new same idle = subst (λ (j : Journal). j.marks.appended ≡ 0 → t.journal.marks.note ≡ j.marks.note → new ≡ old) same.journal idle
-idle_asked (Err why) r s t old new same idle = tt
-
--- something was to be committed
-pub not_idle : (result : Result (Unit {0}) RecordEnd) (r t : Recorder) (note : List ℕ) (old new : DiskRecord) → OnOk result (t.journal.marks.note ≡ note)
-    → ¬ ((r.journal.marks.appended ≡ 0) × (note ≡ r.journal.marks.note)) → OnOk result (IsIdle r t old new)
-not_idle (Ok done) r t note old new noted other = λ none stays. absurd (other (none, sym noted ∙ stays))
-not_idle (Err why) r t note old new noted other = tt

@@ -1,6 +1,5 @@
--- What is committed where a queue had no more.
+-- What is committed where a queue had no more. No caller needs these.
 use Rattle.std.specs.Prelude.{◌≡◌, ℕ, ◌-◌, List, [], ◌∷◌, Option, Result}
-use Rattle.ldm_disk.specs.Told.{DiskRecord}
 use Rattle.ldm_journal.specs.Runs.{Commit}
 use Rattle.ldm_recorder.specs.declared.end.RecordEnd.{RecordEnd}
 use Rattle.ldm_recorder.specs.declared.recorder.Recorder.{Recorder}
@@ -15,14 +14,10 @@ pub record IsSameButLasts (old new : Recorder) : Type 0 where
   pub base : new.base ≡ old.base
   pub lines : new.lines.items ≡ old.lines.items
 
--- Nothing was given since the last commit, and the note stays: then the disk was not called.
-abbrev pub IsIdle : Recorder → Recorder → DiskRecord → DiskRecord → Type 0
-IsIdle r s old new = r.journal.marks.appended ≡ 0 → s.journal.marks.note ≡ r.journal.marks.note → new ≡ old
-
 -- What was given was committed, with numbers of the lines, or with the note that there was.
 pub record CommitsAt (result : Result (Unit {0}) RecordEnd) (who : Who) (at : ℕ) (old new : Sight) : Type 0 where
   pub lasts : Option (List ℕ)
-  pub due : TellsWhereDue old.marks new.pass.seen who (CaughtUp at lasts)
+  pub due : TellsWhereDue old.marks.appended (CaughtUp at lasts)
   pub told : IsTold new.pass.seen who (CaughtUp at lasts)
   pub saves : SavesBy result (λ start. Commit (old.marks.ring - 0) (note_then who.lines lasts start.note) ∷ [])
       (kit_of old.marks old.disk) (kit_of new.marks new.disk)

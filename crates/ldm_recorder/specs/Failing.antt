@@ -5,16 +5,11 @@ use Rattle.ldm_outside.specs.Io.{SinkRecord, WritesAll}
 use Rattle.ldm_recorder.specs.declared.end.RecordEnd.{RecordEnd}
 use Rattle.ldm_recorder.specs.declared.end.RecordEnd.TheVariants as end
 
--- a line where the disk failed, another wrote into the file, or memory, calls or numbers were wanting; none where the gate
--- said to stop, and where the log itself failed
+-- a line where the disk failed, or another wrote into the file, and none at another end
 abbrev pub fault_line : RecordEnd → List ℕ
 fault_line end.DiskFault = codes "journal fault" ++ 10 ∷ []
 fault_line end.NotAJournal = codes "journal changed" ++ 10 ∷ []
-fault_line end.OutOfMemory = codes "journal memory" ++ 10 ∷ []
-fault_line end.Worn = codes "journal calls" ++ 10 ∷ []
-fault_line end.NoNumbers = codes "journal numbers" ++ 10 ∷ []
-fault_line (end.Stopped at) = []
-fault_line end.LogFault = []
+fault_line _ = []
 
 -- the log took a line, or failed behind a front of it
 pub record SaysLine (line : List ℕ) (old new : SinkRecord) : Type 0 where

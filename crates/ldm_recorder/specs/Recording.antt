@@ -14,7 +14,6 @@ use Rattle.ldm_journal.specs.Joining.{MakesEvents, BreaksOffAmid}
 use Rattle.ldm_recorder.specs.declared.end.RecordEnd.{RecordEnd}
 use Rattle.ldm_recorder.specs.declared.end.RecordEnd.TheVariants as end
 use Rattle.ldm_recorder.specs.declared.recorder.Recorder.{Recorder}
-use Rattle.ldm_recorder.specs.Lines.{AreLasts, note_of, with_lasts}
 use Rattle.ldm_recorder.specs.Turns.{Turn, CaughtUp, Given, Lost, Saved, Who, Work, AreNumbered, AreTold, work_of}
 
 -- The pass, the journal's marks with the disk, and the log.
@@ -98,19 +97,18 @@ abbrev pub IsAtEnd : Option ℕ → Turn → Type 0
 IsAtEnd at_end (CaughtUp at lasts) = at_end ≡ Some at
 IsAtEnd at_end _ = at_end ≡ None
 
--- Where nothing was left: only where nothing had been appended since the last commit, and its note has what is known of the
--- lines now, is no line told of.
-abbrev pub TellsWhereDue : Marks → List Entry → Who → Turn → Type 0
-TellsWhereDue marks seen who (CaughtUp at None) =
-    (marks.appended ≡ 0) × ((lasts : List ℕ) × AreLasts who.base at seen who.lines lasts × (marks.note ≡ note_of (with_lasts who.lines lasts)))
-TellsWhereDue marks seen who (CaughtUp at (Some lasts)) = Unit {0}
-TellsWhereDue marks seen who (Lost count first last) = Unit {0}
-TellsWhereDue marks seen who (Given n product) = Unit {0}
-TellsWhereDue marks seen who Saved = Unit {0}
+-- Where nothing was left, and so many bytes had been appended since the last commit: only where there were none is no line
+-- told of.
+abbrev pub TellsWhereDue : ℕ → Turn → Type 0
+TellsWhereDue appended (CaughtUp at None) = appended ≡ 0
+TellsWhereDue appended (CaughtUp at (Some lasts)) = Unit {0}
+TellsWhereDue appended (Lost count first last) = Unit {0}
+TellsWhereDue appended (Given n product) = Unit {0}
+TellsWhereDue appended Saved = Unit {0}
 
 abbrev pub TurnsBy : Result (Option ℕ) RecordEnd → Who → Sight → Sight → Type 0
 TurnsBy (Ok at_end) who old new =
-    (turn : Turn) × IsAtEnd at_end turn × TellsWhereDue old.marks new.pass.seen who turn × Does who (turn ∷ []) old new
+    (turn : Turn) × IsAtEnd at_end turn × TellsWhereDue old.marks.appended turn × Does who (turn ∷ []) old new
 TurnsBy (Err why) who old new = Stops why who old new
 
 -- what holds where nothing was left, of how many products the queue had admitted

@@ -1,10 +1,10 @@
 //! What is known of each REQUEST line while the queue is recorded, and what is committed of it.
-ghost use Rattle.std.specs.Prelude.{◌≡◌, ◌↔◌, ◌⊎◌, ◌≤◌, [], ℕ, List, IfSome, IsTrue, OnOk, slice_get};
+ghost use Rattle.std.specs.Prelude.{◌≡◌, ◌⊎◌, ◌≤◌, [], ℕ, List, IfSome, OnOk, slice_get};
 ghost use Rattle.ldm_disk.specs.Calls.{KeepsDisk};
 ghost use Rattle.ldm_model.specs.declared.event.Entry.{Entry};
 ghost use Rattle.ldm_outside.specs.Io.{SinkRecord};
 ghost use Rattle.ldm_shared.specs.Passes.{Calls, IsPassOf, IsSamePass, PassView};
-ghost use Rattle.ldm_recorder.specs.Catching.{CommitsAt, IsIdle, IsSameButLasts};
+ghost use Rattle.ldm_recorder.specs.Catching.{CommitsAt, IsSameButLasts};
 ghost use Rattle.ldm_recorder.specs.Lines.{AreLasts, IsPut};
 ghost use Rattle.ldm_recorder.specs.Numbers.{KnowsLasts};
 ghost use Rattle.ldm_recorder.specs.Recording.{sight_of, who_of};
@@ -16,7 +16,6 @@ use crate::note::note_of;
 use crate::recorder::Recorder;
 use crate::save::save;
 use ldm_disk::Disk;
-use ldm_journal::NOTE;
 use ldm_shared::{Pass, Shared};
 use ldm_types::Actor;
 
@@ -42,8 +41,8 @@ fn last_within(last: u64, end: u64, began: u64) -> u64
 }
 
 impl Recorder {
-    // Commits what was given, where the queue had no more and had admitted so many, with what each line says of the
-    // product that it put in last, or found queued.
+    // Commits what was given, where the queue had no more and had admitted so many. Where something was, each line is
+    // asked for the product that it put in last.
     pub(crate) fn save_caught<D: Disk>(
         &mut self,
         shared: &Shared,
@@ -56,13 +55,16 @@ impl Recorder {
         ensures calls { Calls pass.old pass.new [] }
         ensures same { IsSameRecorder self.old self.new }
         ensures knows { KnowsLasts pass.old.seen self.old → KnowsLasts pass.new.seen self.new }
-        ensures idle { OnOk result (IsIdle self.old self.new (D.tells disk.old) (D.tells disk.new)) }
+        ensures idle { self.old.journal.marks.appended ≡ 0 → D.tells disk.new ≡ D.tells disk.old }
         ensures next { OnOk result (self.new.journal.marks.next ≡ self.old.journal.marks.next) }
         ensures saved { (log : SinkRecord) → KnowsLasts pass.old.seen self.old
             → CommitsAt result (who_of pass.old self.old) at
             (sight_of pass.old self.old (D.tells disk.old) log) (sight_of pass.new self.new (D.tells disk.new) log) }
         ensures disk { KeepsDisk (D.tells disk.old) (D.tells disk.new) }
     {
+        if self.journal.appended() == 0 {
+            return Ok(());
+        }
         self.learn(shared, pass, at);
         self.save_known(at, disk)
     }
@@ -115,31 +117,22 @@ impl Recorder {
         }
     }
 
-    // Whether a commit would change nothing: nothing was given, and the note is committed.
-    fn is_kept(&self, note: &[u8; NOTE]) -> bool
-        ensures { IsTrue result
-            ↔ ((self.now.journal.marks.appended ≡ 0) × (note.now ≡ self.now.journal.marks.note)) }
-    {
-        self.journal.appended() == 0 && note == self.journal.note()
-    }
-
-    // Commits what was given with what is known of each line, of the queue's first so many products, where one of both
-    // is new.
+    // Commits what was given, where something was, with what is known of each line, of the queue's first so many
+    // products.
     pub(crate) fn save_known<D: Disk>(&mut self, at: u64, disk: &mut D) -> Result<(), RecordEnd>
         ensures same { IsSameRecorder self.old self.new }
         ensures knows { (seen : List Entry) → KnowsLasts seen self.old → KnowsLasts seen self.new }
-        ensures idle { OnOk result (IsIdle self.old self.new (D.tells disk.old) (D.tells disk.new)) }
         ensures next { OnOk result (self.new.journal.marks.next ≡ self.old.journal.marks.next) }
         ensures saved { (pass : PassView) (log : SinkRecord) → KnowsLasts pass.seen self.old
             → CommitsAt result (who_of pass self.old) at
             (sight_of pass self.old (D.tells disk.old) log) (sight_of pass self.new (D.tells disk.new) log) }
         ensures disk { KeepsDisk (D.tells disk.old) (D.tells disk.new) }
     {
-        let lasts = self.lasts_below(at);
-        let note = note_of(&self.lines, &lasts);
-        if self.is_kept(&note) {
+        if self.journal.appended() == 0 {
             return Ok(());
         }
+        let lasts = self.lasts_below(at);
+        let note = note_of(&self.lines, &lasts);
         save(&mut self.journal, disk, 0, &note)
     }
 

@@ -18,16 +18,14 @@ use ldm_types::Micros;
 use std::sync::Wait;
 
 // After so many microseconds what was given is committed, also where the reader has not caught up.
-const LATEST: u64 = 100_000;
+const LATEST: u64 = 1_000_000;
 
 impl Recorder {
     /// Records what comes, until the gate says to stop.
     ///
-    /// What was given is committed where nothing more is left, before the gate is asked; and where more and more comes,
-    /// after a tenth of a second by the clock, or as long as the last such commit took, if that is longer. The log has
-    /// the lines of [`Recorder::turn`], and behind them, where the journal ended early, one of its cause: `journal fault`
-    /// where the disk failed, `journal changed` where another wrote into the file, and `journal memory`,
-    /// `journal calls` or `journal numbers` where memory, the queue's calls or the journal's numbers ran out.
+    /// What was given is committed where nothing more is left, before the gate is asked; and after a second by the
+    /// clock, where more and more comes. The log has the lines of [`Recorder::turn`], and behind them `journal fault`
+    /// where the disk failed, or `journal changed` where another wrote into the file.
     pub fn record<H: Wait, D: Disk, E: Sink, G: Gate, C: Clock>(
         &mut self,
         rt: &H,
@@ -48,14 +46,14 @@ impl Recorder {
             (gated_of (sight_of pass.old self.old (D.tells disk.old) (E.tells log.old)) (G.tells gate.old))
             (gated_of (sight_of pass.new self.new (D.tells disk.new) (E.tells log.new)) (G.tells gate.new)) }
     {
-        let mut due = due_after(LATEST, clock.now());
+        let mut saved = clock.now();
         for _ in rt.forever() {
             match self.turn(rt, shared, pass, disk, log) {
                 Ok(Some(at)) => match gate.idle() {
-                    Go::On => due = due_after(LATEST, clock.now()),
+                    Go::On => saved = clock.now(),
                     Go::Stop => return RecordEnd::Stopped { at },
                 },
-                Ok(None) => match self.save_late(disk, &mut due, clock) {
+                Ok(None) => match self.save_late(disk, &mut saved, clock) {
                     Ok(()) => {}
                     Err(why) => {
                         tell(log, why);
@@ -71,11 +69,11 @@ impl Recorder {
         unreachable!()
     }
 
-    // Commits what was given where that is due.
+    // Commits what was given where the last commit was long ago.
     fn save_late<D: Disk, C: Clock>(
         &mut self,
         disk: &mut D,
-        due: &mut u64,
+        saved: &mut Micros,
         clock: &mut C,
     ) -> Result<(), RecordEnd>
         ensures same { IsSameRecorder self.old self.new }
@@ -84,18 +82,11 @@ impl Recorder {
             (sight_of pass self.old (D.tells disk.old) log)
             (sight_of pass self.new (D.tells disk.new) log) }
     {
-        let begun = clock.now();
-        if begun.get() < *due {
+        let now = clock.now();
+        if now.get() < saved.get().saturating_add(LATEST) {
             return Ok(());
         }
-        let saved = save_some(&mut self.journal, disk);
-        let ended = clock.now();
-        *due = due_after(ended.get().saturating_sub(begun.get()), ended);
-        saved
+        *saved = now;
+        save_some(&mut self.journal, disk)
     }
-}
-
-// When the next commit is due behind one that ended so and took so many microseconds.
-fn due_after(took: u64, ended: Micros) -> u64 {
-    ended.get().saturating_add(took.max(LATEST))
 }

@@ -25,7 +25,6 @@ pub(crate) fn save<D: Disk>(
     ensures free { OnOk result ((journal.new.marks.appended ≡ 0)
         × (journal.new.marks.used + gap ≤ journal.new.marks.ring)) }
     ensures ring { journal.new.marks.ring ≡ journal.old.marks.ring }
-    ensures noted { OnOk result (journal.new.marks.note ≡ note.now) }
     ensures kept { KeepsDisk (D.tells disk.old) (D.tells disk.new) }
 {
     match journal.commit(disk, gap, note) {

@@ -4,18 +4,14 @@ ghost use Rattle.ldm_recorder.specs.Failing.{SaysLine, TellsFault};
 use crate::end::RecordEnd;
 use ldm_outside::{Sink, write_all};
 
-/// Writes a line to the log where the journal ended early: `journal fault` where its disk failed, `journal changed` where
-/// another wrote into its file, `journal memory` where there was none, `journal calls` where the queue had had all that
-/// it can have, and `journal numbers` where the journal had.
+/// Writes a line to the log where the journal failed: `journal fault` where its disk did, and `journal changed` where
+/// another wrote into its file.
 pub(crate) fn tell<E: Sink>(log: &mut E, why: RecordEnd)
     ensures told { TellsFault why (E.tells log.old) (E.tells log.new) }
 {
     match why {
         RecordEnd::DiskFault => say(log, b"journal fault\n"),
         RecordEnd::NotAJournal => say(log, b"journal changed\n"),
-        RecordEnd::OutOfMemory => say(log, b"journal memory\n"),
-        RecordEnd::Worn => say(log, b"journal calls\n"),
-        RecordEnd::NoNumbers => say(log, b"journal numbers\n"),
         _ => {}
     }
 }

@@ -1,7 +1,6 @@
 //! One step of the reader, and what follows it.
 ghost use Rattle.std.specs.Prelude.{◌≡◌, OnOk};
 ghost use Rattle.ldm_shared.specs.Passes.{IsPassOf, IsSamePass};
-ghost use Rattle.ldm_recorder.specs.Catching.{IsIdle};
 ghost use Rattle.ldm_recorder.specs.Numbers.{IsBehind, IsReady};
 ghost use Rattle.ldm_recorder.specs.Recording.{IfAtEnd, TurnsBy, sight_of, who_of};
 ghost use Rattle.ldm_recorder.specs.Taking.{IsSameRecorder};
@@ -16,8 +15,8 @@ use std::sync::Wait;
 
 impl Recorder {
     /// One step of the cursor: what comes is written into the journal, and where nothing is left, that is committed
-    /// with what is known of each line, also where that alone is new. It answers then how many products the queue had
-    /// admitted. The disk is called only where something has to be written.
+    /// with what is known of each line. It answers then how many products the queue had admitted. The disk is called
+    /// only where something has to be written.
     ///
     /// What was evicted before it was given is the log line `gap journal COUNT FIRST LAST`, and a product whose record
     /// is larger than the ring the line `gap ring 1 N N`.
@@ -35,7 +34,7 @@ impl Recorder {
         ensures same { IsSameRecorder self.old self.new }
         ensures ready { OnOk result (IsReady pass.new self.new) }
         ensures behind { IfAtEnd result (IsBehind self.new) }
-        ensures idle { IfAtEnd result (λ _. IsIdle self.old self.new (D.tells disk.old) (D.tells disk.new)) }
+        ensures idle { IfAtEnd result (λ _. self.old.journal.marks.appended ≡ 0 → D.tells disk.new ≡ D.tells disk.old) }
         ensures turned { TurnsBy result (who_of pass.old self.old)
             (sight_of pass.old self.old (D.tells disk.old) (E.tells log.old))
             (sight_of pass.new self.new (D.tells disk.new) (E.tells log.new)) }

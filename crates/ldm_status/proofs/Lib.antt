@@ -1,2 +1,1 @@
-mod Advice
 pub mod SourceLemmas

@@ -63,8 +63,7 @@ Reports ending code old new =
     ((code ≡ code_of ending) × Takes old (log_line ending) new)
     ⊎ ((code ≡ LOG_FAULT) × Rose old.faults new.faults × WritesFront old (log_line ending) new)
 
--- whether a status is of the words, of a configuration, of the outside or of a peer that declined, so that a line before its own may say
--- why
+-- whether a status is of the words, of a configuration or of the outside, so that a line before its own may say why
 abbrev pub says_why : Status → Bool
 says_why status.Done = false
 says_why status.Usage = true
@@ -74,9 +73,9 @@ says_why (status.BadConf file line kind) = true
 says_why (status.BadPqact line kind) = true
 says_why (status.BadImage at) = false
 says_why status.StreamLimit = false
-says_why (status.RefusedArena arena) = true
-says_why (status.RefusedSlots slots) = true
-says_why (status.RefusedPasses passes) = true
+says_why (status.RefusedArena arena) = false
+says_why (status.RefusedSlots slots) = false
+says_why (status.RefusedPasses passes) = false
 says_why status.NetFault = true
 says_why status.NoMemory = false
 says_why status.StoreFault = true
@@ -84,7 +83,7 @@ says_why status.ChildFault = true
 says_why status.SourceFault = false
 says_why status.SinkFault = false
 says_why status.Worn = false
-says_why status.Denied = true
+says_why status.Denied = false
 says_why status.Refused = false
 says_why status.Unclean = false
 
@@ -96,19 +95,6 @@ reason_among status.StoreFault conf store net launcher = store
 reason_among status.NetFault conf store net launcher = net
 reason_among status.ChildFault conf store net launcher = launcher
 reason_among _ conf store net launcher = []
-
--- what stands for a reason where none is given: what is allowed, or what the cause may be
-abbrev pub advice : Status → List ℕ
-advice (status.RefusedArena arena) = codes "-a: an arena is a multiple of 8 from 64 to 1073741824"
-advice (status.RefusedSlots slots) = codes "-S: slots are from 1 to 1048576"
-advice (status.RefusedPasses passes) = codes "-w: workers and REQUEST lines are at most 63 together"
-advice status.Denied = codes "no ALLOW line of the node lets this host have the feedtype, or no ACCEPT line put it in; or it is busy"
-advice _ = []
-
--- the reason that a status is reported for
-abbrev pub reason_or_advice : List ℕ → Status → List ℕ
-reason_or_advice [] ending = advice ending
-reason_or_advice (byte ∷ more) ending = byte ∷ more
 
 -- the line of a reason, with its newline: none where there is no reason
 abbrev pub reason_line : List ℕ → List ℕ

@@ -2,7 +2,7 @@
 ghost use Rattle.std.specs.Prelude.{◌≡◌, ◌≤◌, ◌+◌, []};
 ghost use Rattle.arrayvec.specs.ArrayVec.{array_vec_len};
 ghost use Rattle.ldm_outside.specs.Reason.{IsReason};
-ghost use Rattle.ldm_status.specs.Status.{advice, log_line, reason_line, reason_or_advice};
+ghost use Rattle.ldm_status.specs.Status.{log_line, reason_line};
 ghost use Rattle.ldm_status.specs.declared.status.Status.TheVariants as status;
 
 use arrayvec::ArrayVec;
@@ -104,8 +104,7 @@ impl Status {
         }
     }
 
-    /// Whether [`Status::report_because`] says why: at faults of the words, of a configuration and of the outside, and
-    /// where a peer declined.
+    /// Whether [`Status::report_because`] says why: at faults of the words, of a configuration and of the outside.
     pub fn says_why(&self) -> bool
         ensures { result ≡ says_why self.now }
     {
@@ -113,52 +112,24 @@ impl Status {
             Status::Usage
             | Status::BadConf { .. }
             | Status::BadPqact { .. }
-            | Status::RefusedArena(_)
-            | Status::RefusedSlots(_)
-            | Status::RefusedPasses(_)
             | Status::NetFault
             | Status::StoreFault
-            | Status::ChildFault
-            | Status::Denied => true,
+            | Status::ChildFault => true,
             Status::Done
             | Status::BadLine { .. }
             | Status::BadFrame { .. }
             | Status::BadImage { .. }
             | Status::StreamLimit
+            | Status::RefusedArena(_)
+            | Status::RefusedSlots(_)
+            | Status::RefusedPasses(_)
             | Status::NoMemory
             | Status::SourceFault
             | Status::SinkFault
             | Status::Worn
+            | Status::Denied
             | Status::Refused
             | Status::Unclean => false,
-        }
-    }
-
-    // What stands for a reason where none is given: what is allowed, or what the cause may be.
-    fn advice(&self) -> &'static [u8]
-        ensures { result.now ≡ advice self.now }
-    {
-        match self {
-            Status::RefusedArena(_) => b"-a: an arena is a multiple of 8 from 64 to 1073741824",
-            Status::RefusedSlots(_) => b"-S: slots are from 1 to 1048576",
-            Status::RefusedPasses(_) => b"-w: workers and REQUEST lines are at most 63 together",
-            Status::Denied => {
-                b"no ALLOW line of the node lets this host have the feedtype, or no ACCEPT line put it in; or it is busy"
-            }
-            _ => b"",
-        }
-    }
-
-    // The reason that this status is reported for.
-    #[tactic(auto, using(crate::proofs::Advice::advice_fits, crate::proofs::Advice::advice_shows))]
-    fn reason_or_advice<'a>(&self, reason: &'a [u8]) -> &'a [u8]
-        requires { IsReason reason.now }
-        ensures text { result.now ≡ reason_or_advice reason.entry.now self.now }
-        ensures is_reason { IsReason result.now }
-    {
-        match reason {
-            [] => self.advice(),
-            [_, ..] => reason,
         }
     }
 
@@ -257,18 +228,16 @@ impl Status {
         }
     }
 
-    /// Reports as [`Status::report`] does, and where the status [says why](Status::says_why), writes a line
-    /// `ldm: REASON` before the log line. Without a reason that line has what the status allows, or what its cause may
-    /// be, if that can be said. Both go to the log in one piece.
+    /// Reports as [`Status::report`] does, and where the status [says why](Status::says_why), and the reason is not
+    /// empty, writes a line `ldm: REASON` before the log line. Both go to the log in one piece.
     pub fn report_because<E: Sink>(&self, reason: &[u8], log: &mut E) -> u8
         requires { IsReason reason.now }
-        ensures reports { ReportsFor (reason_or_advice reason.now self.now) self.now result (E.tells log.old)
-            (E.tells log.new) }
+        ensures reports { ReportsFor reason.now self.now result (E.tells log.old) (E.tells log.new) }
         ensures because { ReportsBecause self.now result (E.tells log.old) (E.tells log.new) }
         ensures faults_kept { (E.tells log.old).faults ≤ (E.tells log.new).faults }
     {
         let mut lines = ArrayVec::new();
-        self.put_lines(self.reason_or_advice(reason), &mut lines);
+        self.put_lines(reason, &mut lines);
         match write_all(log, lines.as_slice()) {
             Ok(()) => self.code(),
             Err(SinkFailed) => LOG_FAULT,

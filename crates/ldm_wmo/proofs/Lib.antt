@@ -24,8 +24,3 @@ mod Stream
 mod Pieces
 mod Signed
 mod Taken
-mod Feeding
-mod Lastings
-mod Fed
-mod Visited
-mod Links

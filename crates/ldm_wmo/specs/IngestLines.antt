@@ -1,6 +1,6 @@
 -- The lines of the log on what is no bulletin.
 use Rattle.std.specs.Prelude.{ℕ, List, [], ◌∷◌, ◌++◌, codes, decimal, Option, Some, None}
-use Rattle.ldm_wmo.specs.Items.{Found, Bulletin, Bad, place_in}
+use Rattle.ldm_wmo.specs.Items.{Found, Bulletin, Bad}
 
 abbrev pub bad_line : ℕ → List ℕ
 bad_line at = codes "bad bulletin at " ++ decimal at ++ 10 ∷ []
@@ -18,11 +18,3 @@ bad_lines (Bad at ∷ items) = bad_line at ++ bad_lines items
 abbrev pub cut_lines : Option ℕ → List ℕ
 cut_lines None = []
 cut_lines (Some at) = cut_line at
-
--- the line of a run that ends with items pending: where the first of these begins
-abbrev pub stop_line : ℕ → List ℕ
-stop_line at = codes "stopped at " ++ decimal at ++ 10 ∷ []
-
-abbrev pub stop_lines : List Found → List ℕ
-stop_lines [] = []
-stop_lines (item ∷ items) = stop_line (place_in item)

@@ -33,8 +33,3 @@ found_at at bytes = message_at at Alphanumeric bytes
 abbrev pub IsSound : Found → Type 0
 IsSound (Bulletin at seqno heading bytes) = (is_heading heading ≡ true) × (length bytes ≤ LARGEST_BULLETIN)
 IsSound (Bad at) = Unit {0}
-
--- where an item begins
-abbrev pub place_in : Found → ℕ
-place_in (Bulletin at seqno heading bytes) = at
-place_in (Bad at) = at

@@ -26,6 +26,3 @@ pub mod Ingests
 pub mod Told
 pub mod IngestSamples
 pub mod Parts
-pub mod Lasting
-pub mod Feeds
-pub mod LastingParts

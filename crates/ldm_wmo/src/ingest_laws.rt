@@ -1,5 +1,5 @@
 //! What is told of a run, by the definitions alone. These functions do nothing: their contracts are the laws.
-ghost use Rattle.std.specs.Prelude.{◌≡◌, ℕ, List, [], ◌∷◌, ◌++◌, Result};
+ghost use Rattle.std.specs.Prelude.{◌≡◌, ℕ, List, [], ◌++◌, Result};
 ghost use Rattle.ldm_outside.specs.Io.{Gives};
 ghost use Rattle.ldm_wmo.specs.declared.framing.Framing.{Framing};
 ghost use Rattle.ldm_wmo.specs.declared.kind.Kind.{Kind};
@@ -15,8 +15,6 @@ ghost use Rattle.ldm_wmo.specs.Outcomes.{Step};
 ghost use Rattle.ldm_wmo.specs.Runs.{AreTurns, Turn, bytes_of, items_behind, steps_of};
 ghost use Rattle.ldm_wmo.specs.IngestTaking.{AreTaken};
 ghost use Rattle.ldm_wmo.specs.Told.{Cause, Told};
-ghost use Rattle.ldm_wmo.specs.Lasting.{AreMoves, AreVisits, BeginsWith, Between, Move, Standing, Visit, between_of};
-ghost use Rattle.ldm_wmo.specs.Lasting.{first_move, no_progress};
 
 /// What is told of the bulletins of a run, and of its end.
 pub fn what_is_told_of_bulletins()
@@ -40,15 +38,4 @@ pub fn what_is_signed()
     ensures signed { (kind : Kind) (bytes : List ℕ) (seqno : ℕ) (heading : List ℕ)
         (is : IsBulletin kind bytes seqno heading)
         → from_heading bytes ≡ heading_spelling is.parts }
-{}
-
-/// What is taken over one link after another, of a run that connects again.
-pub fn what_is_taken_over_links()
-    // However links were lost: each item of what was read is done once, in order, and the others are pending.
-    ensures each { (all : Ingesting) (visits : List Visit) (old : Outside) (now : Between)
-        → AreVisits all visits (between_of old no_progress) now
-        → items_of all.framing now.progress.seen ≡ now.progress.done ++ now.progress.pending }
-    // A link begins with the first item that is pending.
-    ensures first { (all : Ingesting) (moves : List Move) (old new : Standing) (item : Found) (rest : List Found)
-        → old.progress.pending ≡ item ∷ rest → AreMoves all moves old new → BeginsWith item (first_move moves) }
 {}

@@ -1,7 +1,7 @@
 //! The lines of the log on what is no bulletin.
 ghost use Rattle.std.specs.Prelude.{◌≡◌, ◌≤◌};
 ghost use Rattle.ldm_outside.specs.Io.{WritesAll};
-ghost use Rattle.ldm_wmo.specs.IngestLines.{bad_line, cut_line, stop_line};
+ghost use Rattle.ldm_wmo.specs.IngestLines.{bad_line, cut_line};
 
 use arrayvec::ArrayVec;
 use ldm_answers::{put, put_number};
@@ -32,18 +32,6 @@ pub(crate) fn write_cut<E: Sink>(log: &mut E, at: u64) -> Result<(), SinkFailed>
 {
     let mut line = LogLine::new();
     put(&mut line, b"cut bulletin at ");
-    put_number(&mut line, at);
-    put(&mut line, b"\n");
-    write_all(log, line.as_slice())
-}
-
-/// Writes where the first item begins that was not taken.
-pub(crate) fn write_stop<E: Sink>(log: &mut E, at: u64) -> Result<(), SinkFailed>
-    ensures written { WritesAll result (stop_line at) (E.tells log.old) (E.tells log.new) }
-    ensures faults_kept { (E.tells log.old).faults ≤ (E.tells log.new).faults }
-{
-    let mut line = LogLine::new();
-    put(&mut line, b"stopped at ");
     put_number(&mut line, at);
     put(&mut line, b"\n");
     write_all(log, line.as_slice())

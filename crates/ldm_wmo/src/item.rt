@@ -1,6 +1,6 @@
 //! What is found in a stream.
 ghost use Rattle.std.specs.Prelude.{◌≡◌};
-ghost use Rattle.ldm_wmo.specs.Items.{enclosed_at, message_at, place_in};
+ghost use Rattle.ldm_wmo.specs.Items.{enclosed_at, message_at};
 ghost use Rattle.ldm_wmo.specs.ItemView.{found_of};
 
 use crate::bulletin::{Reading, read_bulletin};
@@ -28,18 +28,6 @@ pub enum Item<'a> {
         /// Where it begins.
         at: u64,
     },
-}
-
-impl Item<'_> {
-    /// Where it begins.
-    pub(crate) fn place(&self) -> u64
-        ensures { result ≡ place_in (found_of self.now) }
-    {
-        match self {
-            Item::Bulletin { at, .. } => *at,
-            Item::Bad { at } => *at,
-        }
-    }
 }
 
 /// What the message of a frame is that begins there and has these bytes.

@@ -9,7 +9,6 @@ mod command;
 mod course;
 mod examples;
 mod fault;
-mod feed;
 mod frame;
 mod frame_examples;
 mod framing;
@@ -21,12 +20,10 @@ mod ingest_lines;
 mod ingestion;
 mod item;
 mod kind;
-mod lasting;
 mod laws;
 mod lines;
 mod metadata;
 mod outcome;
-mod piece;
 mod scanner;
 mod stage;
 mod statuses;
@@ -42,11 +39,10 @@ pub use framing::Framing;
 pub use heading::LONGEST_HEADING;
 pub use ingest_examples::worked_examples_of_ingesting;
 pub use ingest_fault::IngestFault;
-pub use ingest_laws::{what_is_signed, what_is_taken_over_links, what_is_told_of_bulletins};
+pub use ingest_laws::{what_is_signed, what_is_told_of_bulletins};
 pub use ingestion::Ingestion;
 pub use item::Item;
 pub use kind::Kind;
-pub use lasting::{Lasting, ingest_lasting};
 pub use laws::{
     bulletins_are_read, frames_are_read, pieces_join, pushes_scan_the_stream, streams_are_read,
     written_bulletins_are_found,

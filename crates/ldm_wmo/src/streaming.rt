@@ -157,11 +157,8 @@ fn read_piece<S: Source>(source: &mut S, into: &mut [u8], most: usize) -> Got
     source.read(&mut into[..most])
 }
 
-/// What was met first, where telling the end of the stream came to that.
-pub(crate) fn finish(
-    met: Outcome,
-    told: Result<Outcome, IngestFault>,
-) -> Result<Outcome, IngestFault>
+// What was met first, where telling the end of the stream came to that.
+fn finish(met: Outcome, told: Result<Outcome, IngestFault>) -> Result<Outcome, IngestFault>
     ensures { result ≡ finished met told }
 {
     match told {
@@ -170,8 +167,8 @@ pub(crate) fn finish(
     }
 }
 
-/// Writes the line of the candidate that the end of the stream cuts off, if there is one.
-pub(crate) fn tell_cut<E: Sink>(scanner: Scanner, log: &mut E) -> Result<Outcome, IngestFault>
+// Writes the line of the candidate that the end of the stream cuts off, if there is one.
+fn tell_cut<E: Sink>(scanner: Scanner, log: &mut E) -> Result<Outcome, IngestFault>
     requires { is_complete scanner ≡ false }
     ensures tells { TellsCut result (cut_of scanner) (E.tells log.old) (E.tells log.new) }
     ensures log_kept { (E.tells log.old).faults ≤ (E.tells log.new).faults }

@@ -57,8 +57,8 @@ pub(crate) fn take_piece<L: Link, K: Sink, E: Sink, C: Clock>(
     Ok(met)
 }
 
-/// Takes the item that is complete, if there is one.
-pub(crate) fn take_given<L: Link, K: Sink, E: Sink, C: Clock>(
+// Takes the item that is complete, if there is one.
+fn take_given<L: Link, K: Sink, E: Sink, C: Clock>(
     link: &mut L,
     sink: &mut K,
     log: &mut E,

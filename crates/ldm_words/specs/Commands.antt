@@ -116,16 +116,9 @@ save_command = command_of (codes "save") (file_rule ∷ word_rule (codes "arena"
 unfoldable pub file_command : App
 file_command = command_of (codes "file") (file_rule ∷ [])
 
--- `wmo [-f FEED] [-o ORIGIN] [-s] [-k [-t SECONDS]] [-q HOST:PORT]`
+-- `wmo [-f FEED] [-o ORIGIN] [-s] [-q HOST:PORT]`
 unfoldable pub wmo_command : App
-wmo_command = command_of (codes "wmo")
-    (feed_rule (codes "IDS")
-    ∷ origin_rule
-    ∷ flag_rule (codes "socket") (codes "s")
-    ∷ flag_rule (codes "keep") (codes "k")
-    ∷ option_rule (codes "wait") (codes "t")
-    ∷ peer_rule
-    ∷ [])
+wmo_command = command_of (codes "wmo") (feed_rule (codes "IDS") ∷ origin_rule ∷ flag_rule (codes "socket") (codes "s") ∷ peer_rule ∷ [])
 
 -- `pqstats [-f FEED] [-p PATTERN] [-c COUNT] [-w HOURS] [-s] [-q HOST:PORT]`
 unfoldable pub pqstats_command : App

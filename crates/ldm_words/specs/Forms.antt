@@ -1,5 +1,5 @@
 -- What the words behind a command say, where they are a form of it.
-use Rattle.std.specs.Prelude.{ℕ, Bool, true, false, if◌then◌else◌, List, [], ◌∷◌, Option, Some, None, codes}
+use Rattle.std.specs.Prelude.{ℕ, Bool, if◌then◌else◌, List, [], ◌∷◌, Option, Some, None, codes}
 use Rattle.std.specs.Str.{bytes_eq}
 use Rattle.clap.specs.Words.{Row, Text, first_of}
 use Rattle.ldm_types.specs.declared.class.ClassSpec.{ClassSpec}
@@ -162,25 +162,14 @@ pub record WmoForm : Type 0 where
   pub origin : Text
   -- whether each bulletin is in a frame, as over a socket
   pub socket : Bool
-  -- after how many seconds without a node it gives up, at least 1, or none where it does not connect again
-  pub patience : Option ℕ
   pub peer : Address
-
--- for how long it waits for a node, by whether it connects again and by what is said of that: 600 seconds where nothing is
-abbrev pub patience_of : Bool → Option ℕ → Option (Option ℕ)
-patience_of true None = Some (Some 600)
-patience_of true (Some seconds) = Some (Some seconds)
-patience_of false None = Some None
-patience_of false (Some seconds) = None
 
 abbrev pub wmo_of : List Row → Option WmoForm
 wmo_of rows =
     said feed_number (codes "feed") rows >>= λ feed.
     said origin_of (codes "origin") rows >>= λ origin.
-    optional seconds_of (first_of (codes "wait") rows) >>= λ wait.
-    patience_of (is_used (first_of (codes "keep") rows)) wait >>= λ patience.
     said peer_of (codes "peer") rows >>= λ peer.
-    Some (record { feed = feed; origin = origin; socket = is_used (first_of (codes "socket") rows); patience = patience; peer = peer })
+    Some (record { feed = feed; origin = origin; socket = is_used (first_of (codes "socket") rows); peer = peer })
 
 abbrev pub wmo_form : List Text → Option WmoForm
 wmo_form words = matched wmo_command words >>= wmo_of

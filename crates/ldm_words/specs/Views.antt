@@ -67,7 +67,7 @@ insert_view words = record {
 }
 
 abbrev pub wmo_view : WmoWords → WmoForm
-wmo_view words = record { feed = words.feed.0; origin = words.origin.now; socket = words.socket; patience = words.patience; peer = address_view words.peer }
+wmo_view words = record { feed = words.feed.0; origin = words.origin.now; socket = words.socket; peer = address_view words.peer }
 
 abbrev pub stats_view : StatsWords → StatsForm
 stats_view words = record {

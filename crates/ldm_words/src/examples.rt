@@ -202,24 +202,16 @@ pub fn worked_examples_of_wmo()
       feed = 8;
       origin = codes "localhost";
       socket = false;
-      patience = None;
       peer = record { host = codes "127.0.0.1"; port = 388 };
     }) }
     ensures given { wmo_form (codes "-fDDS" ∷ codes "-o" ∷ codes "h" ∷ codes "-qa:1" ∷ [])
-        ≡ Some (record { feed = 2; origin = codes "h"; socket = false; patience = None; peer = record { host = codes "a"; port = 1 } }) }
+        ≡ Some (record { feed = 2; origin = codes "h"; socket = false; peer = record { host = codes "a"; port = 1 } }) }
     ensures socket { wmo_form (codes "-s" ∷ []) ≡ Some (record {
       feed = 8;
       origin = codes "localhost";
       socket = true;
-      patience = None;
       peer = record { host = codes "127.0.0.1"; port = 388 };
     }) }
-    ensures keep { wmo_form (codes "-k" ∷ codes "-qa:1" ∷ [])
-        ≡ Some (record { feed = 8; origin = codes "localhost"; socket = false; patience = Some 600; peer = record { host = codes "a"; port = 1 } }) }
-    ensures wait { wmo_form (codes "-skt5" ∷ codes "-qa:1" ∷ [])
-        ≡ Some (record { feed = 8; origin = codes "localhost"; socket = true; patience = Some 5; peer = record { host = codes "a"; port = 1 } }) }
-    ensures no_wait { wmo_form (codes "-kt0" ∷ []) ≡ None }
-    ensures wait_alone { wmo_form (codes "-t5" ∷ []) ≡ None }
     ensures socket_twice { wmo_form (codes "-s" ∷ codes "-s" ∷ []) ≡ None }
     ensures zero_byte { wmo_form (codes "-oa\0" ∷ []) ≡ None }
     ensures no_word { wmo_form (codes "f" ∷ []) ≡ None }

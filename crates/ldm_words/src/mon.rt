@@ -37,7 +37,7 @@ fn pqmon_command<'a>(alloc: Global) -> Result<Command<'a>, AllocError>
 fn mon_of(matches: &ArgMatches<'_>) -> Option<MonWords>
     ensures { option_map mon_view result ≡ mon_of (rows_in matches.now) }
 {
-    let every = optional_seconds(matches, "every")?;
+    let every = optional_seconds(matches)?;
     let peer = peer(matches)?;
     Some(MonWords { every, peer })
 }

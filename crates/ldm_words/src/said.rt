@@ -134,8 +134,6 @@ pub struct WmoWords<'a> {
     pub origin: &'a [u8],
     /// Whether each bulletin is in a frame, as over a socket.
     pub socket: bool,
-    /// After how many seconds without a node it gives up, at least 1, if it connects again.
-    pub patience: Option<u32>,
     /// The node to ask.
     pub peer: Address,
     pub ghost named: { IsName origin.now [] },

@@ -284,8 +284,7 @@ fn kind_of(command: &[u8], letter: u8) -> Option<Kind> {
         b"wmo" => match letter {
             b'f' => Some(Kind::Feed),
             b'o' => Some(Kind::Origin),
-            b's' | b'k' => Some(Kind::Flag),
-            b't' => Some(Kind::Seconds),
+            b's' => Some(Kind::Flag),
             b'q' => Some(Kind::Peer),
             _ => None,
         },

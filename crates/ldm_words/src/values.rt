@@ -93,12 +93,12 @@ fn read_count(text: &str) -> Option<u64>
     if count == 0 { None } else { Some(count) }
 }
 
-/// Seconds, 1 at least, which may be left out.
-pub(crate) fn optional_seconds(matches: &ArgMatches<'_>, name: &str) -> Option<Option<u32>>
-    ensures value { result ≡ optional seconds_of (first_of name.now (rows_in matches.now)) }
-    ensures some { IfSome result (λ seconds. ForSome seconds (λ n. 0 < n)) }
+/// Seconds between two askings, which may be left out.
+pub(crate) fn optional_seconds(matches: &ArgMatches<'_>) -> Option<Option<u32>>
+    ensures value { result ≡ optional seconds_of (first_of (codes "every") (rows_in matches.now)) }
+    ensures some { IfSome result (λ every. ForSome every (λ n. 0 < n)) }
 {
-    match value(matches, name) {
+    match value(matches, "every") {
         Some(text) => Some(Some(read_seconds(text)?)),
         None => Some(None),
     }

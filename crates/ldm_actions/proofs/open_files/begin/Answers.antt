@@ -1,5 +1,5 @@
 use Rattle.ldm_actions.specs.OpenFiles.{file_side}
-use Rattle.ldm_actions.proofs.FileSteps.{begins_anew, begins_unemptied}
+use Rattle.ldm_actions.proofs.FileSteps.{begins_anew}
 use Rattle.ldm_actions.proofs.open_files.begin.Goals as goal
 
 pub returns-in-Ok : goal.returns-in-Ok
@@ -8,10 +8,3 @@ returns-in-Ok g c =
     begins_anew c.args.options.overwrite c.args.path.now (c.newest.ensures.0, c.newest.result) (file_side c.args.files.now (tells c.args.store.now))
     (file_side c.use_file.new.files (tells c.use_file.new.store)) (tells c.empty.new.self) c.if-not-options.false c.in-Ready.ensures c.newest.ensures.1
     c.in-Ok.ensures.emptied
-
-pub returns-in-Err : goal.returns-in-Err
-returns-in-Err g c =
-    let tells = g.F.Store.tells in
-    begins_unemptied c.args.options.overwrite c.args.path.now (file_side c.args.files.now (tells c.args.store.now))
-    (file_side c.use_file.new.files (tells c.use_file.new.store)) (tells c.empty.new.self) c.if-not-options.false c.in-Ready.ensures
-    c.in-Err.ensures.emptied

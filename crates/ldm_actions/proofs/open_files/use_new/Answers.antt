@@ -2,7 +2,7 @@ use Rattle.std.proofs.Common.{ℕ, Option, Ok, Err, subst}
 use Rattle.ldm_actions.specs.Kept.{staying}
 use Rattle.ldm_actions.specs.OpenFiles.{OpensAfter}
 use Rattle.ldm_actions.proofs.FileSteps.{opens_failed, opens_reserved}
-use Rattle.ldm_actions.proofs.KeptLemmas.{numbered, taken_back}
+use Rattle.ldm_actions.proofs.KeptLemmas.{numbered}
 use Rattle.ldm_actions.proofs.open_files.use_new.Goals as goal
 
 pub returns-in-Ok-open : goal.returns-in-Ok-open
@@ -22,7 +22,5 @@ returns-in-Err g c =
     let new = g.F.Store.tells c.open.new.store in
     let path = c.args.path.now in
     let failed = c.in-Err.field-0 in
-    let kept = c.args.files.now in
-    opens_failed failed path kept c.take_newest.new.self old new c.requires.keeps
+    opens_failed failed path c.args.files.now c.reserve.new.self old new c.requires.keeps
     (subst (λ (gone : Option ℕ). OpensAfter (Err failed) gone path old new) c.in-Ok.ensures.gone c.in-Err.ensures)
-    (taken_back (path, 0) (staying kept) c.reserve.new.self c.take_newest.new.self c.take_newest.result c.in-Ok.ensures.reserved c.take_newest.ensures)

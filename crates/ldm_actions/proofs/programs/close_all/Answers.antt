@@ -23,4 +23,4 @@ returns-in_err-end_oldest g c =
     rw p.1
     (closing_fails (program_side c.args.programs.now (tells c.args.launcher.now)) (program_side c.loop-programs.programs (tells c.loop-programs.launcher))
     (program_side c.end_oldest.new.programs (tells c.end_oldest.new.launcher)) (rw c.len.ensures at c.loop-programs-test.true) c.loop-programs.invariant
-    c.in_err-end_oldest.ensures.0)
+    c.in_err-end_oldest.ensures)

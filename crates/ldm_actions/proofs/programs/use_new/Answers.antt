@@ -1,7 +1,7 @@
 use Rattle.std.proofs.Common.{ℕ, Option, Ok, Err, subst}
 use Rattle.ldm_actions.specs.Kept.{staying}
 use Rattle.ldm_actions.specs.Programs.{StartsAfter}
-use Rattle.ldm_actions.proofs.KeptLemmas.{numbered, taken_back}
+use Rattle.ldm_actions.proofs.KeptLemmas.{numbered}
 use Rattle.ldm_actions.proofs.ProgramSteps.{starts_failed, starts_reserved}
 use Rattle.ldm_actions.proofs.programs.use_new.Goals as goal
 
@@ -23,8 +23,5 @@ returns-in-Err g c =
     let new = g.L.Launcher.tells c.start.new.launcher in
     let words = c.args.program.now in
     let failed = c.in-Err.field-0 in
-    let kept = c.args.programs.now in
-    starts_failed failed words c.args.command.now kept c.take_newest.new.self old new c.requires.its_own c.requires.unknown c.requires.keeps
+    starts_failed failed words c.args.command.now c.args.programs.now c.reserve.new.self old new c.requires.its_own c.requires.unknown c.requires.keeps
     (subst (λ (gone : Option ℕ). StartsAfter (Err failed) gone words old new) c.in-Ok.ensures.gone c.in-Err.ensures)
-    (taken_back (c.args.command.now, 0) (staying kept) c.reserve.new.self c.take_newest.new.self c.take_newest.result c.in-Ok.ensures.reserved
-    c.take_newest.ensures)

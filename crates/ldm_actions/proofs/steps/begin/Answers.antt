@@ -55,7 +55,7 @@ returns-in-Err g c =
     subst
     (λ (action : Given). BeginsKept answer.LaunchFault (action_of action) (kept_in files piped store launcher) (kept_in files piped store launcher_now))
     (sym c.in-Start.is)
-    (program_not_executed files piped store launcher launcher_now c.in-Start.program c.in-Start.wait c.in-Err.field-0 c.requires c.in-Err.ensures)
+    (program_not_executed files piped store launcher launcher_now c.in-Start.program c.in-Start.wait c.in-Err.field-0 c.in-Err.ensures)
 
 pub returns-in-Nothing : goal.returns-in-Nothing
 returns-in-Nothing g c =

@@ -17,7 +17,7 @@ returns-in-Ok g c =
 pub returns-in-Err : goal.returns-in-Err
 returns-in-Err g c =
     finishes_at done.StoreFault c.args.hand c.args.files.now place.File _ _ c.in-File.is
-    (file_not_finished (newest_path c.args.files.now) c.args.hand.strip c.args.hand.close c.args.hand.flush c.requires.keeps c.in-Err.ensures)
+    (file_not_finished (newest_path c.args.files.now) c.args.hand.strip c.args.hand.close c.args.hand.flush c.in-Err.ensures)
 
 pub returns-in-Ok-finish : goal.returns-in-Ok-finish
 returns-in-Ok-finish g c =
@@ -27,4 +27,4 @@ returns-in-Ok-finish g c =
 pub returns-in-Err-finish : goal.returns-in-Err-finish
 returns-in-Err-finish g c =
     finishes_at done.LaunchFault c.args.hand c.args.files.now place.Child _ _ c.in-Child.is
-    (program_not_finished c.args.hand.strip c.args.hand.close c.args.hand.flush c.requires.keeps c.in-Err-finish.ensures)
+    (program_not_finished c.args.hand.strip c.args.hand.close c.args.hand.flush c.in-Err-finish.ensures)

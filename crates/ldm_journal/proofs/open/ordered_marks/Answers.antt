@@ -12,7 +12,7 @@ pub returns-then-is_ordered-clause-judged : goal.returns-then-is_ordered-clause-
 returns-then-is_ordered-clause-judged c = λ file is long.
     let front = c.args.front.now in
     let marks = c.marks_at-marks.result in
-    front_judged marks c.args.ring front file is c.requires.opened long c.requires.whole (subst (λ (o : Bool). HasNumbers marks c.args.ring o front) c.is_odd.ensures c.marks_at-marks.ensures)
+    front_judged marks c.args.ring front file is c.requires.opened long (subst (λ (o : Bool). HasNumbers marks c.args.ring o front) c.is_odd.ensures c.marks_at-marks.ensures)
 
 pub returns-then-is_ordered-clause-sound : goal.returns-then-is_ordered-clause-sound
 returns-then-is_ordered-clause-sound c =
@@ -36,4 +36,4 @@ returns-else-is_ordered-clause-judged c = λ file is long.
       ]
       | inr over ↦ inl over
     ] in
-    bad_head marks ring file (front_judged marks ring front file is c.requires.opened long c.requires.whole numbers) out
+    bad_head marks ring file (front_judged marks ring front file is c.requires.opened long numbers) out

@@ -17,38 +17,6 @@ returns-in-NotAJournal g c =
           subst (λ (why : RecordEnd). TellsFault why (lines c.args.log.now) (lines c.say-in-NotAJournal.new.log)) (sym c.in-NotAJournal.is) c.say-in-NotAJournal.ensures.said;
     }
 
-pub returns-in-OutOfMemory : goal.returns-in-OutOfMemory
-returns-in-OutOfMemory g c =
-    let lines = g.E.Sink.tells in
-    record {
-      told =
-          subst (λ (why : RecordEnd). TellsFault why (lines c.args.log.now) (lines c.say-in-OutOfMemory.new.log)) (sym c.in-OutOfMemory.is) c.say-in-OutOfMemory.ensures.said;
-    }
-
-pub returns-in-Worn : goal.returns-in-Worn
-returns-in-Worn g c =
-    let lines = g.E.Sink.tells in
-    record {
-      told =
-          subst (λ (why : RecordEnd). TellsFault why (lines c.args.log.now) (lines c.say-in-Worn.new.log)) (sym c.in-Worn.is) c.say-in-Worn.ensures.said;
-    }
-
-pub returns-in-NoNumbers : goal.returns-in-NoNumbers
-returns-in-NoNumbers g c =
-    let lines = g.E.Sink.tells in
-    record {
-      told =
-          subst (λ (why : RecordEnd). TellsFault why (lines c.args.log.now) (lines c.say-in-NoNumbers.new.log)) (sym c.in-NoNumbers.is) c.say-in-NoNumbers.ensures.said;
-    }
-
 pub returns-in_default : goal.returns-in_default
-returns-in_default g c = record {
-  told = not_told c.args.why (g.E.Sink.tells c.args.log.now)
-      (record {
-        disk = c.in_default.not-DiskFault;
-        file = c.in_default.not-NotAJournal;
-        memory = c.in_default.not-OutOfMemory;
-        calls = c.in_default.not-Worn;
-        numbers = c.in_default.not-NoNumbers;
-      });
-}
+returns-in_default g c =
+    record { told = not_told c.args.why (g.E.Sink.tells c.args.log.now) c.in_default.not-DiskFault c.in_default.not-NotAJournal }

@@ -25,19 +25,3 @@ returns-clause-zero_byte c = refl
 pub returns-clause-no_word : goal.returns-clause-no_word
 unfolding on_literals
 returns-clause-no_word c = refl
-
-pub returns-clause-keep : goal.returns-clause-keep
-unfolding on_literals
-returns-clause-keep c = refl
-
-pub returns-clause-wait : goal.returns-clause-wait
-unfolding on_literals
-returns-clause-wait c = refl
-
-pub returns-clause-no_wait : goal.returns-clause-no_wait
-unfolding on_literals
-returns-clause-no_wait c = refl
-
-pub returns-clause-wait_alone : goal.returns-clause-wait_alone
-unfolding on_literals
-returns-clause-wait_alone c = refl

@@ -1,7 +1,7 @@
 use Rattle.std.proofs.Common.{codes, rules}
 use Rattle.std.proofs.lemmas.Result.{IfOk-weaker}
 use Rattle.ldm_words.proofs.Parsing.{adds}
-use Rattle.ldm_words.specs.Commands.{feed_rule, flag_rule, option_rule, origin_rule, peer_rule, wmo_command}
+use Rattle.ldm_words.specs.Commands.{feed_rule, flag_rule, origin_rule, peer_rule, wmo_command}
 use Rattle.ldm_words.specs.Views.{HasRule}
 use Rattle.ldm_words.proofs.wmo.wmo_command.Goals as goal
 
@@ -11,12 +11,8 @@ returns c =
     let feed : HasRule (feed_rule (codes "IDS")) c.option_or.result = search rules in
     let origin : HasRule origin_rule c.option_or-2.result = search rules in
     let socket : HasRule (flag_rule (codes "socket") (codes "s")) c.flag.result = search rules in
-    let keep : HasRule (flag_rule (codes "keep") (codes "k")) c.flag-2.result = search rules in
-    let wait : HasRule (option_rule (codes "wait") (codes "t")) c.option.result = search rules in
     let peer : HasRule peer_rule c.option_or-3.result = search rules in
     let one = adds _ _ _ _ _ c.in_ok-arg.ensures c.bare.ensures feed in
     let two = adds _ _ _ _ _ c.in_ok-arg-2.ensures one origin in
     let three = adds _ _ _ _ _ c.in_ok-arg-3.ensures two socket in
-    let four = adds _ _ _ _ _ c.in_ok-arg-4.ensures three keep in
-    let five = adds _ _ _ _ _ c.in_ok-arg-5.ensures four wait in
-    IfOk-weaker c.arg-6.result _ _ (λ command added. adds _ command _ _ _ added five peer) c.arg-6.ensures
+    IfOk-weaker c.arg-4.result _ _ (λ command added. adds _ command _ _ _ added three peer) c.arg-4.ensures

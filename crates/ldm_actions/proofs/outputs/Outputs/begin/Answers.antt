@@ -2,7 +2,7 @@ use Rattle.std.proofs.Common.{Some, sym, subst}
 use Rattle.ldm_actions.specs.declared.answers.Begun.TheVariants as answer
 use Rattle.ldm_actions.specs.declared.hand.Hand.{Hand}
 use Rattle.ldm_actions.specs.Hands.{action_of}
-use Rattle.ldm_actions.specs.Outputs.{Begins, KeepsAll, OutputsView, outputs_view, standing}
+use Rattle.ldm_actions.specs.Outputs.{Begins, KeepsUnlessSpent, OutputsView, outputs_view, standing}
 use Rattle.ldm_actions.proofs.OutputsLemmas.{begins_ready, keeps_ready}
 use Rattle.ldm_actions.proofs.outputs.Outputs.begin.Goals as goal
 
@@ -32,7 +32,7 @@ returns-in-Ready-clause-keeps g c =
     let launcher = g.L.Launcher.tells c.args.launcher.now in
     let launcher_now = g.L.Launcher.tells c.begin.new.launcher in
     subst
-    (λ (hand : Hand). KeepsAll (standing (outputs_view c.begin.new.files c.begin.new.piped (Some hand) was.spent) store_now launcher_now))
+    (λ (hand : Hand). KeepsUnlessSpent (standing (outputs_view c.begin.new.files c.begin.new.piped (Some hand) was.spent) store_now launcher_now))
     (sym c.of.ensures)
     (keeps_ready was.files was.piped c.begin.new.files c.begin.new.piped was.hand was.spent store store_now launcher launcher_now c.in_default.is
     c.args.action.now c.in-Ready.ensures)

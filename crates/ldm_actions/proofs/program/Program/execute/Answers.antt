@@ -2,8 +2,8 @@ use Rattle.std.proofs.Common.{false}
 use Rattle.ldm_outside.proofs.StoreLemmas.{IsNotWaitedFor-taking, IsTaking-last}
 use Rattle.ldm_actions.proofs.program.Program.execute.Goals as goal
 
-pub wait_for-requires : goal.wait_for-requires
-wait_for-requires g c =
+pub wait-requires : goal.wait-requires
+wait-requires g c =
     let tells = g.L.Launcher.tells in
     let told = c.in_ok-child.ensures in
     IsNotWaitedFor-taking c.in_ok-child.child (tells c.start.new.launcher)

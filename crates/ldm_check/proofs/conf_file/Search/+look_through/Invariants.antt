@@ -1,4 +1,4 @@
-use Rattle.std.proofs.Common.{◌≡◌, ◌-◌, ◌≤◌, false}
+use Rattle.std.proofs.Common.{◌≡◌, ◌-◌, ◌≤◌}
 use Rattle.ldm_conf.specs.declared.limits.TheConstants.{DEEPEST_INCLUDE}
 use Rattle.ldm_text.specs.Lines.{length_left}
 use Rattle.ldm_check.specs.Sources.{Fits, left_of}
@@ -10,7 +10,7 @@ decreases-look_through g l = DEEPEST_INCLUDE - l.lines.depth
 
 abbrev pub invariant-loop-line : goal.invariant-loop-line
 invariant-loop-line g l = record {
-  passes : l.eases ≡ false → Passes (g.F.Store.tells l.initial.store) (g.F.Store.tells l.store) (state_of l.initial.self) (left_of l.path l.initial.lines) (state_of l.self) (left_of l.path l.lines);
+  passes : Passes (g.F.Store.tells l.initial.store) (g.F.Store.tells l.store) (state_of l.initial.self) (left_of l.path l.initial.lines) (state_of l.self) (left_of l.path l.lines);
   fits : Fits l.lines;
   depth : l.lines.depth ≡ l.initial.lines.depth;
   faults_kept : (g.F.Store.tells l.initial.store).faults ≤ (g.F.Store.tells l.store).faults;

@@ -5,7 +5,7 @@ use Rattle.regex.specs.Patterns.{Config, default_config}
 use Rattle.regex.specs.Sources.{IsRefusal}
 use Rattle.regex.specs.Views.{builder_config, builder_source}
 use Rattle.ldm_pattern.specs.Patterns.{byte_config}
-use Rattle.ldm_pattern.proofs.Meanings.{built_is_pattern, nothing_of_other_bytes, nothing_of_refused, pattern_of_large}
+use Rattle.ldm_pattern.proofs.Meanings.{built_is_pattern, nothing_of_other_bytes, nothing_of_refused}
 use Rattle.ldm_pattern.proofs.pattern.Pattern.build_within.Goals as goal
 
 pub returns-in_default : goal.returns-in_default
@@ -33,14 +33,3 @@ returns-in-Err-Syntax c =
     let refused : RefusedFor c.in-Ok.text.now = subst RefusedFor text (subst Refused options c.in-Err-Syntax.ensures.refused) in
     let kind : KindFor c.in-Ok.text.now = subst KindFor text (subst Kind options c.in-Err-Syntax.ensures.kind) in
     rw (← c.in-Ok.ensures.cases.0) (nothing_of_refused c.in-Ok.text.now error c.in-Err-Syntax.field-0-0 c.in-Err-Syntax.field-0-is refused kind)
-
-pub returns-in-Err-CompiledTooBig : goal.returns-in-Err-CompiledTooBig
-returns-in-Err-CompiledTooBig c =
-    let options : builder_config c.size_limit.result ≡ default_config = ap builder_config c.size_limit.ensures ∙ c.new.ensures.config in
-    let text : builder_source c.size_limit.result ≡ c.in-Ok.text.now = ap builder_source c.size_limit.ensures ∙ c.new.ensures.source in
-    let error = c.in-Err-CompiledTooBig.field-0 in
-    let Kind : Config → Type 0 = λ o. IsRightKind (record o { utf8 = false }) (builder_source c.size_limit.result) error in
-    let KindFor : List ℕ → Type 0 = λ source. IsRightKind byte_config source error in
-    let kind : KindFor c.in-Ok.text.now = subst KindFor text (subst Kind options c.in-Err-CompiledTooBig.ensures.kind) in
-    let utf8 : IsUtf8 c.in-Ok.text.now = rw c.in-Ok.ensures.cases.0 c.in-Ok.ensures.cases.1 in
-    rw (← c.in-Ok.ensures.cases.0) (pattern_of_large c.in-Ok.text.now utf8 error c.in-Err-CompiledTooBig.field-0-is kind)

@@ -2,8 +2,8 @@ use Rattle.std.proofs.Common.{◌∙◌, ap, sym}
 use Rattle.ldm_text.proofs.CallerLemmas.{no_word}
 use Rattle.ldm_text.specs.Words.{Words}
 use Rattle.ldm_text.specs.declared.words.Comments.TheVariants.{Hash}
-use Rattle.ldm_command_files.proofs.mistakes.take_word.Goals as goal
+use Rattle.ldm_check.proofs.said.take_word.Goals as goal
 
-pub returns-then-is_empty-clause-word : goal.returns-then-is_empty-clause-word
-returns-then-is_empty-clause-word c =
+pub returns-then-is_empty : goal.returns-then-is_empty
+returns-then-is_empty c =
     ap (λ (read : Words). read.words) (sym c.to_word-rest.ensures.words ∙ no_word Hash c.to_word-rest.result.now (sym c.is_empty.ensures ∙ c.if-is_empty.true))
